@@ -23,7 +23,7 @@ use Rattle.rep_pages.specs.Pages.{IsFirstRow, EndWithTheTable}
 use Rattle.rep_pages.specs.Images.{row_of}
 use Rattle.rep_pages.specs.Slots.{state_of_page}
 use Rattle.rep_cells.specs.Readings.{Reading}
-use Rattle.rep_disk.specs.History.{History}
+use Rattle.rep_disk.specs.declared.disk.Disk.{Ghosts}
 use Rattle.rep_forms.specs.Rows.{RowFits}
 use Rattle.rep_pool.specs.BasePages.{HasPage, IsSpelledPage}
 use Rattle.rep_engine.specs.Donating.{IsBasePage, HasNoRow}
@@ -232,14 +232,14 @@ pages_none b m a few = let rest = go_on b m 0 m [] (omega arith) few (no_pages_b
 
 -- ---- what is written of them
 
-pub record WrotePages {D : Type 0} (honest : D → Type 0) (history : D → History) (failures : D → ℕ) (r : Replica D) (number : ℕ) (old new : Option (List ℕ)) : Type 0 where
+pub record WrotePages {D : Type 0} (g : Ghosts D) (r : Replica D) (number : ℕ) (old new : Option (List ℕ)) : Type 0 where
   pub pages : List NumberedPage
   pub are_pages : ArePagesBelow r.engine.checkpoint.base number pages
-  pub known : KnowsPages honest history failures r number pages
+  pub known : KnowsPages g r number pages
   pub written : Appends old new (flat_map page_bytes pages)
 
-module _ {D : Type 0} (honest : D → Type 0) (history : D → History) (failures : D → ℕ) (r : Replica D) where
-  pub wrote_no_pages : (old : Option (List ℕ)) → WrotePages honest history failures r 0 old old
+module _ {D : Type 0} (g : Ghosts D) (r : Replica D) where
+  pub wrote_no_pages : (old : Option (List ℕ)) → WrotePages g r 0 old old
   wrote_no_pages old = record {
     pages = [];
     are_pages = no_pages_below r.engine.checkpoint.base;
@@ -255,28 +255,28 @@ module _ {D : Type 0} (honest : D → Type 0) (history : D → History) (failure
   node_more content n pages None are free none = subst (ArePages r.engine.checkpoint.base content (n + 1)) (sym (append-nil pages)) (pages_stay r.engine.checkpoint.base content n pages are free none)
   node_more content n pages (Some p) are is held = pages_more r.engine.checkpoint.base content n pages are p held
 
-  pub wrote_more_pages : (n : ℕ) (old mid new : Option (List ℕ)) (o : Option NumberedPage) → WrotePages honest history failures r n old mid → IsPageFor r.engine.checkpoint.base n o → KnowsPage honest history failures r n o → Appends mid new (page_part o) → WrotePages honest history failures r (n + 1) old new
+  pub wrote_more_pages : (n : ℕ) (old mid new : Option (List ℕ)) (o : Option NumberedPage) → WrotePages g r n old mid → IsPageFor r.engine.checkpoint.base n o → KnowsPage g r n o → Appends mid new (page_part o) → WrotePages g r (n + 1) old new
   wrote_more_pages n old mid new o w is known written = record {
     pages = w.pages ++ listed o;
     are_pages = below_more r.engine.checkpoint.base n w.pages o w.are_pages is;
     known = record {
-      there = λ h. there_more (as_seen history r.engine) w.pages o (w.known.there h) (known.there h);
+      there = λ h. there_more (as_seen g r.engine) w.pages o (w.known.there h) (known.there h);
       of_node = λ node h. node_more node.base.content n w.pages o (w.known.of_node node h) is (known.of_node node h);
     };
     written = subst (Appends old new) (sym (flat_map-append page_bytes w.pages (listed o)))
         (Appends-trans old mid new (flat_map page_bytes w.pages) (flat_map page_bytes (listed o)) w.written (subst (Appends mid new) (sym (listed_bytes o)) written));
   }
 
-module _ {D : Type 0} (honest : D → Type 0) (history : D → History) (failures : D → ℕ) where
+module _ {D : Type 0} (g : Ghosts D) where
   -- what was known of the replica before
-  pub page_before : (a b : Replica D) (number : ℕ) (old new : Option (List ℕ)) (result : Result (Unit {0}) Refusal) → ReadsAlone honest history a b → ((n : Node) → Holds honest history failures n a → Holds honest history failures n b)
-      → Writes page_part (IsPageFor b.engine.checkpoint.base number) (λ done. KnowsPage honest history failures b number) old new result → Writes page_part (IsPageFor a.engine.checkpoint.base number) (λ done. KnowsPage honest history failures a number) old new result
+  pub page_before : (a b : Replica D) (number : ℕ) (old new : Option (List ℕ)) (result : Result (Unit {0}) Refusal) → ReadsAlone g a b → ((n : Node) → Holds g n a → Holds g n b)
+      → Writes page_part (IsPageFor b.engine.checkpoint.base number) (λ done. KnowsPage g b number) old new result → Writes page_part (IsPageFor a.engine.checkpoint.base number) (λ done. KnowsPage g a number) old new result
   page_before a b number old new result reads still w =
-      let same : b.engine.checkpoint.base ≡ a.engine.checkpoint.base = same_of honest history failures (λ (r : Replica D). r.engine.checkpoint.base) a b reads refl in
+      let same : b.engine.checkpoint.base ≡ a.engine.checkpoint.base = same_of g (λ (r : Replica D). r.engine.checkpoint.base) a b reads refl in
       writes_mapped page_part _ _ _ _ old new result
       (λ o is. subst (λ (s : SuperBody). IsPageFor s number o) same is)
       (λ done o is known. record {
-        there = λ h. seen_before honest history failures a b (λ r l s log. IfSome o (IsPageThere r s)) reads h (known.there (reads.is_honest h));
+        there = λ h. seen_before g a b (λ r l s log. IfSome o (IsPageThere r s)) reads h (known.there (reads.is_honest h));
         of_node = λ n h. subst (λ (s : SuperBody). IsPageOfNode s n.base.content number o) same (known.of_node n (still n h));
       }) w
 

@@ -4,6 +4,7 @@ use Rattle.std.specs.Prelude.{◌⊎◌, ◌||◌, is_some, IsOk, IsErr, OnOk}
 use Rattle.rep_types.specs.declared.refusal.Refusal.{Refusal}
 use Rattle.rep_types.specs.declared.refusal.Refusal.TheVariants.{StreamFault, DiskFault, Corrupt}
 use Rattle.rep_types.specs.declared.refusal.Part.{Part}
+use Rattle.rep_disk.specs.declared.disk.Disk.{Ghosts}
 use Rattle.rep_disk.specs.History.{History, seen}
 use Rattle.rep_disk.specs.Calls.{Rises}
 use Rattle.rep_layout.specs.declared.place.Layout.{Layout}
@@ -61,13 +62,13 @@ asked_part part other (Ok x) is same = absurd cc
 asked_part part other (Err e) (inl fault) same = absurd cc
 asked_part part other (Err e) (inr corrupt) same = let one : part ≡ other = cc in sym one
 
-module _ {D : Type 0} (honest : D → Type 0) (history : D → History) (failures : D → ℕ) where
+module _ {D : Type 0} (g : Ghosts D) where
   -- ---- the device was read alone
 
-  pub reads_none : (r : Replica D) → ReadsAlone honest history r r
+  pub reads_none : (r : Replica D) → ReadsAlone g r r
   reads_none r = record { rest = refl; is_honest = λ h. h; same = λ h. refl }
 
-  pub reads_then : (a b c : Replica D) → ReadsAlone honest history a b → ReadsAlone honest history b c → ReadsAlone honest history a c
+  pub reads_then : (a b c : Replica D) → ReadsAlone g a b → ReadsAlone g b c → ReadsAlone g a c
   reads_then a b c first second = record {
     rest = second.rest ∙ ap (λ (r : Replica D). record r { engine = record r.engine { disk = c.engine.disk; halted = c.engine.halted } }) first.rest;
     is_honest = λ h. second.is_honest (first.is_honest h);
@@ -77,13 +78,13 @@ module _ {D : Type 0} (honest : D → Type 0) (history : D → History) (failure
   -- ---- what a part leaves
 
   -- what the device showed before
-  pub seen_before : (a b : Replica D) (P : Reading → Layout → SuperBody → Log → Type 0) → ReadsAlone honest history a b → honest a.engine.disk → P (as_seen history b.engine) b.engine.layout b.engine.checkpoint.base b.engine.log → P (as_seen history a.engine) a.engine.layout a.engine.checkpoint.base a.engine.log
+  pub seen_before : (a b : Replica D) (P : Reading → Layout → SuperBody → Log → Type 0) → ReadsAlone g a b → g.honest a.engine.disk → P (as_seen g b.engine) b.engine.layout b.engine.checkpoint.base b.engine.log → P (as_seen g a.engine) a.engine.layout a.engine.checkpoint.base a.engine.log
   seen_before a b P reads is_honest there =
-      let here = subst (λ (r : Replica D). P (reading_of r.engine.layout (seen (history b.engine.disk))) r.engine.layout r.engine.checkpoint.base r.engine.log) reads.rest there in
+      let here = subst (λ (r : Replica D). P (reading_of r.engine.layout (seen (g.history b.engine.disk))) r.engine.layout r.engine.checkpoint.base r.engine.log) reads.rest there in
       subst (λ (h : History). P (reading_of a.engine.layout (seen h)) a.engine.layout a.engine.checkpoint.base a.engine.log) (reads.same is_honest) here
 
   -- nothing was asked
-  pub leaves_all : {T : Type 0} (r : Replica D) (noted : Bool) (x : T) → IsRunning r → Leaves honest history failures r r noted noted (Ok x)
+  pub leaves_all : {T : Type 0} (r : Replica D) (noted : Bool) (x : T) → IsRunning r → Leaves g r r noted noted (Ok x)
   leaves_all r noted x runs = record {
     reads = reads_none r;
     runs = runs;
@@ -98,7 +99,7 @@ module _ {D : Type 0} (honest : D → Type 0) (history : D → History) (failure
   }
 
   -- the writer failed
-  pub leaves_cut : {T : Type 0} (r : Replica D) (before after : Bool) (e : Refusal) → e ≡ StreamFault → Notes {T = T} before after (Err e) → Leaves {T = T} honest history failures r r before after (Err e)
+  pub leaves_cut : {T : Type 0} (r : Replica D) (before after : Bool) (e : Refusal) → e ≡ StreamFault → Notes {T = T} before after (Err e) → Leaves {T = T} g r r before after (Err e)
   leaves_cut r before after e is notes = record {
     reads = reads_none r;
     runs = tt;
@@ -151,10 +152,10 @@ module _ {D : Type 0} (honest : D → Type 0) (history : D → History) (failure
     no_stream (Err e) (inl fault) same = absurd cc
     no_stream (Err e) (inr corrupt) same = absurd cc
 
-  pub leaves_asked : {T : Type 0} (size : D → ℕ) (part : Part) (old new : Replica D) (noted : Bool) (result : Result T Refusal) → Asks size failures honest history part old new result → IsRunning old
-      → ((n : Node) → Holds honest history failures n old → result ≢ Err DiskFault → Holds honest history failures n new) → ((n : Node) → Holds honest history failures n old → result ≢ Err (Corrupt part))
-      → (honest old.engine.disk → result ≡ Err (Corrupt part) → IsBadPart (as_seen history old.engine) old.engine.layout old.engine.checkpoint.base old.engine.log part) → Leaves honest history failures old new noted noted result
-  leaves_asked size part old new noted result asked runs still whole bad = record {
+  pub leaves_asked : {T : Type 0} (part : Part) (old new : Replica D) (noted : Bool) (result : Result T Refusal) → Asks g part old new result → IsRunning old
+      → ((n : Node) → Holds g n old → result ≢ Err DiskFault → Holds g n new) → ((n : Node) → Holds g n old → result ≢ Err (Corrupt part))
+      → (g.honest old.engine.disk → result ≡ Err (Corrupt part) → IsBadPart (as_seen g old.engine) old.engine.layout old.engine.checkpoint.base old.engine.log part) → Leaves g old new noted noted result
+  leaves_asked part old new noted result asked runs still whole bad = record {
     reads = record { rest = asked.rest; is_honest = asked.call.stays_honest; same = asked.same };
     runs = runs_on old new old.engine.log.phase result (ap (λ (r : Replica D). r.stopped) asked.rest) runs (asked.running runs).0;
     holds = still;
@@ -166,20 +167,20 @@ module _ {D : Type 0} (honest : D → Type 0) (history : D → History) (failure
     );
     no_fault = λ other. asked.call.no_cause (told part result (asked.running runs).1 other);
     halts = λ other. (asked.running runs).0 ∙ not_halted_by part old.engine.log.phase result (asked.running runs).1 other ∙ sym (not_halted old.stopped old.engine.halted runs);
-    bad = λ h other. bad_of part (IsBadPart (as_seen history old.engine) old.engine.layout old.engine.checkpoint.base old.engine.log) other result (asked.running runs).1 (bad h);
+    bad = λ h other. bad_of part (IsBadPart (as_seen g old.engine) old.engine.layout old.engine.checkpoint.base old.engine.log) other result (asked.running runs).1 (bad h);
     notes = record { fault = λ is. absurd (no_stream part result (asked.running runs).1 is); fine = λ other. refl };
   }
 
-  pub leaves_noted : {T : Type 0} (r : Replica D) (before after : Bool) (x : T) → Notes before after (Ok x) → IsRunning r → Leaves honest history failures r r before after (Ok x)
-  leaves_noted r before after x notes runs = subst (λ (noted : Bool). Leaves honest history failures r r before noted (Ok x)) (sym (notes.fine (λ is. absurd cc))) (leaves_all r before x runs)
+  pub leaves_noted : {T : Type 0} (r : Replica D) (before after : Bool) (x : T) → Notes before after (Ok x) → IsRunning r → Leaves g r r before after (Ok x)
+  leaves_noted r before after x notes runs = subst (λ (noted : Bool). Leaves g r r before noted (Ok x)) (sym (notes.fine (λ is. absurd cc))) (leaves_all r before x runs)
 
   -- the writer was asked
-  pub leaves_wrote : (r : Replica D) (before after : Bool) (a b : Option (List ℕ)) (bytes : List ℕ) (result : Result (Unit {0}) Refusal) → Wrote a b bytes result → Notes before after result → IsRunning r → Leaves honest history failures r r before after result
+  pub leaves_wrote : (r : Replica D) (before after : Bool) (a b : Option (List ℕ)) (bytes : List ℕ) (result : Result (Unit {0}) Refusal) → Wrote a b bytes result → Notes before after result → IsRunning r → Leaves g r r before after result
   leaves_wrote r before after a b bytes (Ok x) w notes runs = leaves_noted r before after x notes runs
   leaves_wrote r before after a b bytes (Err e) w notes runs = leaves_cut r before after e w.refused notes
 
   -- one part after another
-  pub leaves_then : {T U : Type 0} (a b c : Replica D) (before mid after : Bool) (x : T) (result : Result U Refusal) → Leaves honest history failures a b before mid (Ok x) → Leaves honest history failures b c mid after result → Leaves honest history failures a c before after result
+  pub leaves_then : {T U : Type 0} (a b c : Replica D) (before mid after : Bool) (x : T) (result : Result U Refusal) → Leaves g a b before mid (Ok x) → Leaves g b c mid after result → Leaves g a c before after result
   leaves_then a b c before mid after x result first second = record {
     reads = reads_then a b c first.reads second.reads;
     runs = second.runs;
@@ -188,7 +189,7 @@ module _ {D : Type 0} (honest : D → Type 0) (history : D → History) (failure
     whole = λ n h part. second.whole n (first.holds n h (λ is. absurd cc)) part;
     fault = λ is.
         let risen = second.fault is in
-        (subst (λ (k : ℕ). Rises k (failures c.engine.disk)) (first.no_fault (λ never. absurd cc)) risen.0, risen.1);
+        (subst (λ (k : ℕ). Rises k (g.failures c.engine.disk)) (first.no_fault (λ never. absurd cc)) risen.0, risen.1);
     no_fault = λ other. second.no_fault other ∙ first.no_fault (λ never. absurd cc);
     halts = λ other. second.halts other ∙ first.halts (λ never. absurd cc);
     bad = λ h part is. seen_before a b (λ r l base log. IsBadPart r l base log part) first.reads h (second.bad (first.reads.is_honest h) part is);
@@ -196,7 +197,7 @@ module _ {D : Type 0} (honest : D → Type 0) (history : D → History) (failure
   }
 
   -- a refusal is passed on
-  pub leaves_passed : {T U : Type 0} (a b : Replica D) (before after : Bool) (e : Refusal) → Leaves {T = T} honest history failures a b before after (Err e) → Leaves {T = U} honest history failures a b before after (Err e)
+  pub leaves_passed : {T U : Type 0} (a b : Replica D) (before after : Bool) (e : Refusal) → Leaves {T = T} g a b before after (Err e) → Leaves {T = U} g a b before after (Err e)
   leaves_passed a b before after e left = record {
     reads = left.reads;
     runs = tt;
@@ -211,7 +212,7 @@ module _ {D : Type 0} (honest : D → Type 0) (history : D → History) (failure
   }
 
   -- and so is a value
-  pub leaves_given : {T U : Type 0} (a b : Replica D) (before after : Bool) (x : T) (y : U) → Leaves honest history failures a b before after (Ok x) → Leaves honest history failures a b before after (Ok y)
+  pub leaves_given : {T U : Type 0} (a b : Replica D) (before after : Bool) (x : T) (y : U) → Leaves g a b before after (Ok x) → Leaves g a b before after (Ok y)
   leaves_given a b before after x y left = record {
     reads = left.reads;
     runs = left.runs;
@@ -226,9 +227,9 @@ module _ {D : Type 0} (honest : D → Type 0) (history : D → History) (failure
   }
 
   -- what it still stands for
-  pub still_holds : {T : Type 0} (a b : Replica D) (before after : Bool) (x : T) (n : Node) → Leaves honest history failures a b before after (Ok x) → Holds honest history failures n a → Holds honest history failures n b
+  pub still_holds : {T : Type 0} (a b : Replica D) (before after : Bool) (x : T) (n : Node) → Leaves g a b before after (Ok x) → Holds g n a → Holds g n b
   still_holds a b before after x n left h = left.holds n h (λ is. absurd cc)
 
   -- the base, the log and the layout stay
-  pub same_of : {R : Type 0} (f : Replica D → R) (a b : Replica D) → ReadsAlone honest history a b → f (record a { engine = record a.engine { disk = b.engine.disk; halted = b.engine.halted } }) ≡ f a → f b ≡ f a
+  pub same_of : {R : Type 0} (f : Replica D → R) (a b : Replica D) → ReadsAlone g a b → f (record a { engine = record a.engine { disk = b.engine.disk; halted = b.engine.halted } }) ≡ f a → f b ≡ f a
   same_of f a b reads is = ap f reads.rest ∙ is

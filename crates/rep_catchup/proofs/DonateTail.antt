@@ -22,6 +22,7 @@ use Rattle.rep_forms.specs.FormLaws.{length_number}
 use Rattle.rep_record.specs.declared.limits.TheConstants.{MAX_BLOCK}
 use Rattle.rep_record.specs.Blocks.{Contents, IsBlock, block_bytes, run_bytes}
 use Rattle.rep_layout.specs.Places.{log_of}
+use Rattle.rep_disk.specs.declared.disk.Disk.{Ghosts}
 use Rattle.rep_disk.specs.History.{History}
 use Rattle.rep_layout.specs.declared.place.Layout.{Layout}
 use Rattle.rep_layout.specs.declared.super_body.SuperBody.{SuperBody}
@@ -74,9 +75,9 @@ no_more : {A : Type 0} (xs : List A) → length xs ≡ 0 → xs ≡ []
 no_more [] none = refl
 no_more (x ∷ xs) none = absurd (omega (arith, none))
 
-module _ {D : Type 0} (honest : D → Type 0) (history : D → History) (failures : D → ℕ) (n : Node) where
+module _ {D : Type 0} (g : Ghosts D) (n : Node) where
   -- where there is no block, nothing is durable behind the base
-  pub no_block_no_item : (r : Replica D) → Holds honest history failures n r → IsRunning r → r.engine.log.next - r.engine.log.start ≡ 0 → durable_items n ≡ []
+  pub no_block_no_item : (r : Replica D) → Holds g n r → IsRunning r → r.engine.log.next - r.engine.log.start ≡ 0 → durable_items n ≡ []
   no_block_no_item r holds runs none =
       let there = holds.engine.runs (not_halted r.stopped r.engine.halted runs) in
       let size : length (take holds.taken n.items) ≡ holds.taken = length-take-le holds.taken n.items holds.within in
@@ -85,10 +86,10 @@ module _ {D : Type 0} (honest : D → Type 0) (history : D → History) (failure
       sym (sym (ap records_of (no_more there.blocks empty)) ∙ there.stands.durable ∙ take-take (n.facts.durable - n.facts.base) holds.taken n.items near)
 
   -- the block is one of the replica's at the beginning
-  pub block_at_first : (a b : Replica D) (index : ℕ) (records : List Judged) → ReadsAlone honest history a b → honest a.engine.disk
-      → IsTailBlock n b.engine.layout (history b.engine.disk) b.engine.checkpoint.base b.engine.log index records → IsTailBlock n a.engine.layout (history a.engine.disk) a.engine.checkpoint.base a.engine.log index records
+  pub block_at_first : (a b : Replica D) (index : ℕ) (records : List Judged) → ReadsAlone g a b → g.honest a.engine.disk
+      → IsTailBlock n b.engine.layout (g.history b.engine.disk) b.engine.checkpoint.base b.engine.log index records → IsTailBlock n a.engine.layout (g.history a.engine.disk) a.engine.checkpoint.base a.engine.log index records
   block_at_first a b index records reads is_honest block =
-      let here = subst (λ (r : Replica D). IsTailBlock n r.engine.layout (history b.engine.disk) r.engine.checkpoint.base r.engine.log index records) reads.rest block in
+      let here = subst (λ (r : Replica D). IsTailBlock n r.engine.layout (g.history b.engine.disk) r.engine.checkpoint.base r.engine.log index records) reads.rest block in
       subst (λ (h : History). IsTailBlock n a.engine.layout h a.engine.checkpoint.base a.engine.log index records) (reads.same is_honest) here
 
 -- ---- what a read tells
@@ -169,42 +170,42 @@ there_push r l number (first ∷ blocks) records are here =
 -- ---- of a node
 
 -- The blocks are the first ones of a node's tail.
-pub record AreFirstBlocks {D : Type 0} (history : D → History) (n : Node) (e : Engine D) (index : ℕ) (blocks : List (List Judged)) : Type 0 where
+pub record AreFirstBlocks {D : Type 0} (g : Ghosts D) (n : Node) (e : Engine D) (index : ℕ) (blocks : List (List Judged)) : Type 0 where
   pub all : List (List Judged)
-  pub tail : IsTail n e.layout (history e.disk) e.checkpoint.base e.log all
+  pub tail : IsTail n e.layout (g.history e.disk) e.checkpoint.base e.log all
   pub front : blocks ≡ take index all
 
 -- So many of the blocks were written.
-pub record WroteBlocks {D : Type 0} (honest : D → Type 0) (history : D → History) (failures : D → ℕ) (r : Replica D) (position index : ℕ) (old new : Option (List ℕ)) : Type 0 where
+pub record WroteBlocks {D : Type 0} (g : Ghosts D) (r : Replica D) (position index : ℕ) (old new : Option (List ℕ)) : Type 0 where
   pub blocks : List (List Judged)
   pub count : length blocks ≡ index
   pub within : index ≤ r.engine.log.next - r.engine.log.start
   pub are_blocks : AllByRecursion IsSomeBlock blocks
-  pub there : honest r.engine.disk → AreBlocksThere (as_seen history r.engine) r.engine.layout r.engine.log.start blocks
-  pub of_node : (n : Node) → Holds honest history failures n r → 0 < index → AreFirstBlocks history n r.engine index blocks
+  pub there : g.honest r.engine.disk → AreBlocksThere (as_seen g r.engine) r.engine.layout r.engine.log.start blocks
+  pub of_node : (n : Node) → Holds g n r → 0 < index → AreFirstBlocks g n r.engine index blocks
   pub written : Appends old new (tail_part position blocks)
 
 first_ones : (index : ℕ) (blocks all : List (List Judged)) → length blocks ≡ index → (0 < index → blocks ≡ take index all) → blocks ≡ take index all
 first_ones zero blocks all size front = no_more blocks size
 first_ones (suc k) blocks all size front = front (omega arith)
 
-module _ {D : Type 0} (honest : D → Type 0) (history : D → History) (failures : D → ℕ) (r : Replica D) (position : ℕ) where
-  pub wrote_no_blocks : (old : Option (List ℕ)) → WroteBlocks honest history failures r position 0 old old
+module _ {D : Type 0} (g : Ghosts D) (r : Replica D) (position : ℕ) where
+  pub wrote_no_blocks : (old : Option (List ℕ)) → WroteBlocks g r position 0 old old
   wrote_no_blocks old = record { blocks = []; count = refl; within = omega arith; are_blocks = tt; there = λ h. tt; of_node = λ n h some. absurd (omega (arith, some)); written = Appends-nil old }
 
-  same_tail : TheTailIsTold → (n : Node) (index : ℕ) (blocks all : List (List Judged)) → IsTail n r.engine.layout (history r.engine.disk) r.engine.checkpoint.base r.engine.log all → AreFirstBlocks history n r.engine index blocks → blocks ≡ take index all
-  same_tail told n index blocks all tail first = first.front ∙ ap (take index) (told n r.engine.layout (history r.engine.disk) r.engine.checkpoint.base r.engine.log first.all all first.tail tail)
+  same_tail : TheTailIsTold → (n : Node) (index : ℕ) (blocks all : List (List Judged)) → IsTail n r.engine.layout (g.history r.engine.disk) r.engine.checkpoint.base r.engine.log all → AreFirstBlocks g n r.engine index blocks → blocks ≡ take index all
+  same_tail told n index blocks all tail first = first.front ∙ ap (take index) (told n r.engine.layout (g.history r.engine.disk) r.engine.checkpoint.base r.engine.log first.all all first.tail tail)
 
-  pub wrote_more_blocks : TheTailIsTold → (index : ℕ) (records : List Judged) (old mid new : Option (List ℕ)) → WroteBlocks honest history failures r position index old mid → index < r.engine.log.next - r.engine.log.start → IsBlock (r.engine.log.start + index) records
-      → (honest r.engine.disk → as_seen history r.engine (log_of r.engine.layout (r.engine.log.start + index)) ≡ Some (block_bytes (r.engine.log.start + index) records))
-      → ((n : Node) → Holds honest history failures n r → IsTailBlock n r.engine.layout (history r.engine.disk) r.engine.checkpoint.base r.engine.log index records) → Appends mid new (bytes_above position records) → WroteBlocks honest history failures r position (index + 1) old new
+  pub wrote_more_blocks : TheTailIsTold → (index : ℕ) (records : List Judged) (old mid new : Option (List ℕ)) → WroteBlocks g r position index old mid → index < r.engine.log.next - r.engine.log.start → IsBlock (r.engine.log.start + index) records
+      → (g.honest r.engine.disk → as_seen g r.engine (log_of r.engine.layout (r.engine.log.start + index)) ≡ Some (block_bytes (r.engine.log.start + index) records))
+      → ((n : Node) → Holds g n r → IsTailBlock n r.engine.layout (g.history r.engine.disk) r.engine.checkpoint.base r.engine.log index records) → Appends mid new (bytes_above position records) → WroteBlocks g r position (index + 1) old new
   wrote_more_blocks told index records old mid new w due block there node written = record {
     blocks = w.blocks ++ records ∷ [];
     count = length-append w.blocks (records ∷ []) ∙ ap (λ (k : ℕ). k + 1) w.count;
     within = omega (arith, due);
     are_blocks = all_push IsSomeBlock w.blocks records w.are_blocks (r.engine.log.start + index, block);
-    there = λ h. there_push (as_seen history r.engine) r.engine.layout r.engine.log.start w.blocks records (w.there h)
-        (subst (λ (k : ℕ). IsBlockThere (as_seen history r.engine) r.engine.layout (r.engine.log.start + k) records) (sym w.count) (block, there h));
+    there = λ h. there_push (as_seen g r.engine) r.engine.layout r.engine.log.start w.blocks records (w.there h)
+        (subst (λ (k : ℕ). IsBlockThere (as_seen g r.engine) r.engine.layout (r.engine.log.start + k) records) (sym w.count) (block, there h));
     of_node = λ n h some.
         let here = node n h in
         let lt : index < length here.blocks = omega (arith, due, here.tail.count) in
@@ -217,31 +218,31 @@ module _ {D : Type 0} (honest : D → Type 0) (history : D → History) (failure
     written = subst (Appends old new) (sym (tail_push position w.blocks records)) (Appends-trans old mid new (tail_part position w.blocks) (bytes_above position records) w.written written);
   }
 
-  all_of_node : (n : Node) (index : ℕ) (blocks : List (List Judged)) → length blocks ≡ index → r.engine.log.next - r.engine.log.start ≤ index → (r.engine.log.next - r.engine.log.start ≡ 0 → durable_items n ≡ []) → (0 < index → AreFirstBlocks history n r.engine index blocks) → records_of blocks ≡ durable_items n
+  all_of_node : (n : Node) (index : ℕ) (blocks : List (List Judged)) → length blocks ≡ index → r.engine.log.next - r.engine.log.start ≤ index → (r.engine.log.next - r.engine.log.start ≡ 0 → durable_items n ≡ []) → (0 < index → AreFirstBlocks g n r.engine index blocks) → records_of blocks ≡ durable_items n
   all_of_node n zero blocks size past none first = ap records_of (no_more blocks size) ∙ sym (none (omega (arith, past)))
   all_of_node n (suc k) blocks size past none first =
       let here = first (omega arith) in
       ap records_of (here.front ∙ take_all (suc k) here.all (omega (arith, past, here.tail.count))) ∙ here.tail.items
 
   -- all were written
-  pub wrote_all_blocks : (index : ℕ) (old new : Option (List ℕ)) → IsRunning r → WroteBlocks honest history failures r position index old new → r.engine.log.next - r.engine.log.start ≤ index → Writes {T = Unit {0}} (tail_part position) (AreAllBlocks r.engine.log) (λ done. KnowsBlocks honest history failures r) old new (Ok tt)
+  pub wrote_all_blocks : (index : ℕ) (old new : Option (List ℕ)) → IsRunning r → WroteBlocks g r position index old new → r.engine.log.next - r.engine.log.start ≤ index → Writes {T = Unit {0}} (tail_part position) (AreAllBlocks r.engine.log) (λ done. KnowsBlocks g r) old new (Ok tt)
   wrote_all_blocks index old new runs w past = record {
     done = (
       w.blocks,
       (w.are_blocks, omega (arith, w.count, w.within, past)),
-      record { there = w.there; of_node = λ n h. all_of_node n index w.blocks w.count past (no_block_no_item honest history failures n r h runs) (w.of_node n h) },
+      record { there = w.there; of_node = λ n h. all_of_node n index w.blocks w.count past (no_block_no_item g n r h runs) (w.of_node n h) },
       w.written,
     );
     cut = tt;
   }
 
   -- the device showed no more
-  pub blocks_end : (index : ℕ) (old new : Option (List ℕ)) (e : Refusal) → WroteBlocks honest history failures r position index old new → Writes {T = Unit {0}} (tail_part position) (AreAllBlocks r.engine.log) (λ done. KnowsBlocks honest history failures r) old new (Err e)
+  pub blocks_end : (index : ℕ) (old new : Option (List ℕ)) (e : Refusal) → WroteBlocks g r position index old new → Writes {T = Unit {0}} (tail_part position) (AreAllBlocks r.engine.log) (λ done. KnowsBlocks g r) old new (Err e)
   blocks_end index old new e w = record { done = tt; cut = blocks_cut r.engine.log position w.blocks old new w.are_blocks (omega (arith, w.count, w.within)) (front_all old new (tail_part position w.blocks) w.written) }
 
   -- the writer failed in a block
-  pub blocks_end_within : (index : ℕ) (records : List Judged) (old mid new : Option (List ℕ)) (e : Refusal) → WroteBlocks honest history failures r position index old mid → index < r.engine.log.next - r.engine.log.start → IsBlock (r.engine.log.start + index) records → Wrote mid new (bytes_above position records) (Err e)
-      → Writes {T = Unit {0}} (tail_part position) (AreAllBlocks r.engine.log) (λ done. KnowsBlocks honest history failures r) old new (Err e)
+  pub blocks_end_within : (index : ℕ) (records : List Judged) (old mid new : Option (List ℕ)) (e : Refusal) → WroteBlocks g r position index old mid → index < r.engine.log.next - r.engine.log.start → IsBlock (r.engine.log.start + index) records → Wrote mid new (bytes_above position records) (Err e)
+      → Writes {T = Unit {0}} (tail_part position) (AreAllBlocks r.engine.log) (λ done. KnowsBlocks g r) old new (Err e)
   blocks_end_within index records old mid new e w due block wrote = record {
     done = tt;
     cut = blocks_cut r.engine.log position (w.blocks ++ records ∷ []) old new (all_push IsSomeBlock w.blocks records w.are_blocks (r.engine.log.start + index, block))
@@ -251,9 +252,9 @@ module _ {D : Type 0} (honest : D → Type 0) (history : D → History) (failure
 
 -- ---- what is read of a replica, by what it was at the beginning
 
-module _ {D : Type 0} (honest : D → Type 0) (history : D → History) (failures : D → ℕ) (a b : Replica D) (reads : ReadsAlone honest history a b) (index : ℕ) (o : Option Contents) where
+module _ {D : Type 0} (g : Ghosts D) (a b : Replica D) (reads : ReadsAlone g a b) (index : ℕ) (o : Option Contents) where
   same_log : b.engine.log ≡ a.engine.log
-  same_log = same_of honest history failures (λ (r : Replica D). r.engine.log) a b reads refl
+  same_log = same_of g (λ (r : Replica D). r.engine.log) a b reads refl
 
   pub past_first : o ≡ None → is_some o ≡ nat_lt index (b.engine.log.next - b.engine.log.start) → a.engine.log.next - a.engine.log.start ≤ index
   past_first is told = subst (λ (log : Log). log.next - log.start ≤ index) same_log (past_here index (b.engine.log.next - b.engine.log.start) o is told)
@@ -267,8 +268,8 @@ module _ {D : Type 0} (honest : D → Type 0) (history : D → History) (failure
         let here : (block.cell ≡ b.engine.log.start + index) × IsBlock block.cell block.records = subst (λ (x : Option Contents). IfSome x (λ c. (c.cell ≡ b.engine.log.start + index) × IsBlock c.cell c.records)) is form in
         subst (λ (k : ℕ). IsBlock k block.records) (here.0 ∙ ap (λ (log : Log). log.start + index) same_log) here.1
 
-    pub there_first : honest a.engine.disk → IfSome o (λ c. as_seen history b.engine (log_of b.engine.layout (b.engine.log.start + index)) ≡ Some (block_bytes (b.engine.log.start + index) c.records))
-        → as_seen history a.engine (log_of a.engine.layout (a.engine.log.start + index)) ≡ Some (block_bytes (a.engine.log.start + index) block.records)
+    pub there_first : g.honest a.engine.disk → IfSome o (λ c. as_seen g b.engine (log_of b.engine.layout (b.engine.log.start + index)) ≡ Some (block_bytes (b.engine.log.start + index) c.records))
+        → as_seen g a.engine (log_of a.engine.layout (a.engine.log.start + index)) ≡ Some (block_bytes (a.engine.log.start + index) block.records)
     there_first is_honest there =
-        let here = subst (λ (x : Option Contents). IfSome x (λ c. as_seen history b.engine (log_of b.engine.layout (b.engine.log.start + index)) ≡ Some (block_bytes (b.engine.log.start + index) c.records))) is there in
-        seen_before honest history failures a b (λ r l s log. r (log_of l (log.start + index)) ≡ Some (block_bytes (log.start + index) block.records)) reads is_honest here
+        let here = subst (λ (x : Option Contents). IfSome x (λ c. as_seen g b.engine (log_of b.engine.layout (b.engine.log.start + index)) ≡ Some (block_bytes (b.engine.log.start + index) c.records))) is there in
+        seen_before g a b (λ r l s log. r (log_of l (log.start + index)) ≡ Some (block_bytes (log.start + index) block.records)) reads is_honest here

@@ -18,7 +18,7 @@ use Rattle.rep_types.specs.Settings.{Setting, IsRow, is_setting, pages_of}
 use Rattle.rep_types.specs.Windows.{Window as Kept, fixed}
 use Rattle.rep_types.specs.Order.{State}
 use Rattle.rep_forms.specs.Forms.{number_bytes}
-use Rattle.rep_disk.specs.History.{History}
+use Rattle.rep_disk.specs.declared.disk.Disk.{Ghosts}
 use Rattle.rep_layout.specs.declared.format.Format.{Format}
 use Rattle.rep_layout.specs.declared.format.Format.TheVariants.{Two}
 use Rattle.rep_layout.specs.declared.super_body.SuperBody.{SuperBody}
@@ -62,8 +62,8 @@ pub record IsBaseOf (n : Node) (b : SuperBody) : Type 0 where
   pub limit : b.position ≤ MAX_SEQNO
   pub outside : (key : Key) → (IsRow b.params.rows key → ⊥) → n.base.content key ≡ None
 
-pub base_of : {D : Type 0} (honest : D → Type 0) (history : D → History) (failures : D → ℕ) (n : Node) (r : Replica D) → Holds honest history failures n r → IsRunning r → IsBaseOf n r.engine.checkpoint.base
-base_of honest history failures n r holds runs =
+pub base_of : {D : Type 0} (g : Ghosts D) (n : Node) (r : Replica D) → Holds g n r → IsRunning r → IsBaseOf n r.engine.checkpoint.base
+base_of g n r holds runs =
     let there = holds.engine.runs (not_halted r.stopped r.engine.halted runs) in
     let base = there.stands.checkpoint.base in
     let at : n.facts.base ≡ r.engine.checkpoint.base.position = ap (λ (s : Standing). s.base) holds.facts in
@@ -231,36 +231,36 @@ module _ (places : RowPlacesAreTold) (n : Node) (b : SuperBody) (base : IsBaseOf
     state = ap (λ (p : Setting). state_of p snapshot) base.setting ∙ brings;
   }
 
-module _ {D : Type 0} (honest : D → Type 0) (history : D → History) (failures : D → ℕ) where
+module _ {D : Type 0} (g : Ghosts D) where
   -- what is known of a snapshot, by what is known of its window and its pages
-  pub knows_snapshot : RowPlacesAreTold → (r : Replica D) → IsRunning r → (v : Kept) (pages : List NumberedPage) → StandsBeside r.engine.checkpoint.base v → KnowsWindow honest history failures r v → KnowsPages honest history failures r (pages_of r.engine.checkpoint.base.params.rows) pages
-      → KnowsSnapshot honest history failures r (record { position = r.engine.checkpoint.base.position; kept = v; pages = pages })
+  pub knows_snapshot : RowPlacesAreTold → (r : Replica D) → IsRunning r → (v : Kept) (pages : List NumberedPage) → StandsBeside r.engine.checkpoint.base v → KnowsWindow g r v → KnowsPages g r (pages_of r.engine.checkpoint.base.params.rows) pages
+      → KnowsSnapshot g r (record { position = r.engine.checkpoint.base.position; kept = v; pages = pages })
   knows_snapshot places r runs v pages stands window known = record {
     there = λ h. record { window = window.there h; pages = known.there h };
-    of_node = λ n h. snapshot_of_node places n r.engine.checkpoint.base (base_of honest history failures n r h runs) v (window.of_node n h) pages stands (known.of_node n h);
+    of_node = λ n h. snapshot_of_node places n r.engine.checkpoint.base (base_of g n r h runs) v (window.of_node n h) pages stands (known.of_node n h);
   }
 
   -- what was known of the replica before
-  pub pages_before : (a b : Replica D) (old new : Option (List ℕ)) (result : Result (Unit {0}) Refusal) → ReadsAlone honest history a b → ((n : Node) → Holds honest history failures n a → Holds honest history failures n b)
-      → Writes (flat_map page_bytes) (ArePagesBelow b.engine.checkpoint.base (pages_of b.engine.checkpoint.base.params.rows)) (λ done. KnowsPages honest history failures b (pages_of b.engine.checkpoint.base.params.rows)) old new result
-      → Writes (flat_map page_bytes) (ArePagesBelow a.engine.checkpoint.base (pages_of a.engine.checkpoint.base.params.rows)) (λ done. KnowsPages honest history failures a (pages_of a.engine.checkpoint.base.params.rows)) old new result
+  pub pages_before : (a b : Replica D) (old new : Option (List ℕ)) (result : Result (Unit {0}) Refusal) → ReadsAlone g a b → ((n : Node) → Holds g n a → Holds g n b)
+      → Writes (flat_map page_bytes) (ArePagesBelow b.engine.checkpoint.base (pages_of b.engine.checkpoint.base.params.rows)) (λ done. KnowsPages g b (pages_of b.engine.checkpoint.base.params.rows)) old new result
+      → Writes (flat_map page_bytes) (ArePagesBelow a.engine.checkpoint.base (pages_of a.engine.checkpoint.base.params.rows)) (λ done. KnowsPages g a (pages_of a.engine.checkpoint.base.params.rows)) old new result
   pages_before a b old new result reads still w =
-      let same : b.engine.checkpoint.base ≡ a.engine.checkpoint.base = same_of honest history failures (λ (r : Replica D). r.engine.checkpoint.base) a b reads refl in
+      let same : b.engine.checkpoint.base ≡ a.engine.checkpoint.base = same_of g (λ (r : Replica D). r.engine.checkpoint.base) a b reads refl in
       writes_mapped (flat_map page_bytes) _ _ _ _ old new result
       (λ pages are. subst (λ (s : SuperBody). ArePagesBelow s (pages_of s.params.rows) pages) same are)
       (λ done pages are known. record {
-        there = λ h. seen_before honest history failures a b (λ r l s log. AllByRecursion (IsPageThere r s) pages) reads h (known.there (reads.is_honest h));
+        there = λ h. seen_before g a b (λ r l s log. AllByRecursion (IsPageThere r s) pages) reads h (known.there (reads.is_honest h));
         of_node = λ n h. subst (λ (s : SuperBody). ArePages s n.base.content (pages_of s.params.rows) pages) same (known.of_node n (still n h));
       }) w
 
-  pub blocks_before : (a b : Replica D) (position : ℕ) (old new : Option (List ℕ)) (result : Result (Unit {0}) Refusal) → ReadsAlone honest history a b → ((n : Node) → Holds honest history failures n a → Holds honest history failures n b)
-      → Writes (tail_part position) (AreAllBlocks b.engine.log) (λ done. KnowsBlocks honest history failures b) old new result → Writes (tail_part position) (AreAllBlocks a.engine.log) (λ done. KnowsBlocks honest history failures a) old new result
+  pub blocks_before : (a b : Replica D) (position : ℕ) (old new : Option (List ℕ)) (result : Result (Unit {0}) Refusal) → ReadsAlone g a b → ((n : Node) → Holds g n a → Holds g n b)
+      → Writes (tail_part position) (AreAllBlocks b.engine.log) (λ done. KnowsBlocks g b) old new result → Writes (tail_part position) (AreAllBlocks a.engine.log) (λ done. KnowsBlocks g a) old new result
   blocks_before a b position old new result reads still w =
-      let same : b.engine.log ≡ a.engine.log = same_of honest history failures (λ (r : Replica D). r.engine.log) a b reads refl in
+      let same : b.engine.log ≡ a.engine.log = same_of g (λ (r : Replica D). r.engine.log) a b reads refl in
       writes_mapped (tail_part position) _ _ _ _ old new result
       (λ blocks are. subst (λ (log : Log). AreAllBlocks log blocks) same are)
       (λ done blocks are known. record {
-        there = λ h. seen_before honest history failures a b (λ r l s log. AreBlocksThere r l log.start blocks) reads h (known.there (reads.is_honest h));
+        there = λ h. seen_before g a b (λ r l s log. AreBlocksThere r l log.start blocks) reads h (known.there (reads.is_honest h));
         of_node = λ n h. known.of_node n (still n h);
       }) w
 
@@ -275,8 +275,8 @@ above_base p S (j ∷ items) (suc k) position within judged =
     let rest = above_base p (advanced p S j) items k position (omega (arith, within)) judged.2 in
     rw yes (ap (λ (js : List Judged). j ∷ js) rest)
 
-pub all_above : {D : Type 0} (honest : D → Type 0) (history : D → History) (failures : D → ℕ) (n : Node) (r : Replica D) → Holds honest history failures n r → above n.facts.base (durable_items n) ≡ durable_items n
-all_above honest history failures n r holds = above_base n.facts.setting n.base n.items (n.facts.durable - n.facts.base) n.facts.base (omega (arith, holds.node.position)) holds.judged
+pub all_above : {D : Type 0} (g : Ghosts D) (n : Node) (r : Replica D) → Holds g n r → above n.facts.base (durable_items n) ≡ durable_items n
+all_above g n r holds = above_base n.facts.setting n.base n.items (n.facts.durable - n.facts.base) n.facts.base (omega (arith, holds.node.position)) holds.judged
 
 -- ---- what comes before the records
 
@@ -326,10 +326,6 @@ module _ (b : SuperBody) (log : Log) (have : Have) (h : Header) (is_header : IsH
     records = refl;
     last = last_is;
   }
-
-  -- what comes behind the header
-  abbrev behind_header : Option Snapshot → List (List Judged) → List ℕ
-  behind_header s blocks = snapshot_part h.format s ++ (tail_part (behind have s) blocks ++ end_bytes last)
 
   parts_are : (s : Option Snapshot) → snapshot_part Two s ≡ snapshot_part h.format s
   parts_are s = ap (λ (format : Format). snapshot_part format s) (sym two)
@@ -390,35 +386,35 @@ module _ (b : SuperBody) (log : Log) (have : Have) (h : Header) (is_header : IsH
             (with_parts s blocks, all_parts s blocks base are, length first + k, omega (arith, ap length same, length-append first (end_bytes last), short), written)
 
         -- all was written
-        pub donates : {D : Type 0} (honest : D → Type 0) (history : D → History) (failures : D → ℕ) (r : Replica D) (f : Option (List ℕ)) → r.engine.checkpoint.base ≡ b → r.engine.log ≡ log → Appends e f (end_bytes last)
-            → (honest r.engine.disk → IfSome s (IsSnapshotThere (as_seen history r.engine) b) × AreBlocksThere (as_seen history r.engine) r.engine.layout log.start blocks) → ((n : Node) → Holds honest history failures n r → IsDonated n have (with_parts s blocks))
-            → Donates honest history failures r have a f last
-        donates honest history failures r f base_is log_is ended there of_node = record {
+        pub donates : {D : Type 0} (g : Ghosts D) (r : Replica D) (f : Option (List ℕ)) → r.engine.checkpoint.base ≡ b → r.engine.log ≡ log → Appends e f (end_bytes last)
+            → (g.honest r.engine.disk → IfSome s (IsSnapshotThere (as_seen g r.engine) b) × AreBlocksThere (as_seen g r.engine) r.engine.layout log.start blocks) → ((n : Node) → Holds g n r → IsDonated n have (with_parts s blocks))
+            → Donates g r have a f last
+        donates g r f base_is log_is ended there of_node = record {
           transfer = with_parts s blocks;
           parts = subst (λ (x : SuperBody). HasAllParts x r.engine.log have (with_parts s blocks)) (sym base_is) (subst (λ (x : Log). HasAllParts b x have (with_parts s blocks)) (sym log_is) (all_parts s blocks base are));
           is_last = refl;
           written = subst (Appends a f) (all_are s blocks base are a f) (Appends-trans a e f (before_end s blocks base are a f) (end_bytes last) told_tail ended);
           there = λ h. record {
-            snapshot = subst (λ (x : SuperBody). IfSome s (IsSnapshotThere (as_seen history r.engine) x)) (sym base_is) (there h).0;
+            snapshot = subst (λ (x : SuperBody). IfSome s (IsSnapshotThere (as_seen g r.engine) x)) (sym base_is) (there h).0;
             blocks = blocks;
-            are_there = subst (λ (x : Log). AreBlocksThere (as_seen history r.engine) r.engine.layout x.start blocks) (sym log_is) (there h).1;
+            are_there = subst (λ (x : Log). AreBlocksThere (as_seen g r.engine) r.engine.layout x.start blocks) (sym log_is) (there h).1;
             count = are.1 ∙ ap (λ (x : Log). x.next - x.start) (sym log_is);
             records = refl;
           };
           of_node = of_node;
         }
 
-module _ {D : Type 0} (honest : D → Type 0) (history : D → History) (failures : D → ℕ) where
-  pub base_there : (r : Replica D) (s : Option Snapshot) → IfSome s (KnowsSnapshot honest history failures r) → honest r.engine.disk → IfSome s (IsSnapshotThere (as_seen history r.engine) r.engine.checkpoint.base)
+module _ {D : Type 0} (g : Ghosts D) where
+  pub base_there : (r : Replica D) (s : Option Snapshot) → IfSome s (KnowsSnapshot g r) → g.honest r.engine.disk → IfSome s (IsSnapshotThere (as_seen g r.engine) r.engine.checkpoint.base)
   base_there r None known h = tt
   base_there r (Some s) known h = known.there h
 
-  pub base_of_node : (r : Replica D) (s : Option Snapshot) → IfSome s (KnowsSnapshot honest history failures r) → (n : Node) → Holds honest history failures n r → IfSome s (IsSnapshotOf n)
+  pub base_of_node : (r : Replica D) (s : Option Snapshot) → IfSome s (KnowsSnapshot g r) → (n : Node) → Holds g n r → IfSome s (IsSnapshotOf n)
   base_of_node r None known n h = tt
   base_of_node r (Some s) known n h = known.of_node n h
 
   -- of a node it is what the joiner needs
-  pub donated_of_node : (n : Node) (r : Replica D) → Holds honest history failures n r → (have : Have) (h : Header) → h.format ≡ Two → h.uuid ≡ r.engine.checkpoint.base.uuid → h.shape ≡ shape_of r.engine.checkpoint.base.params → (s : Option Snapshot) → ComesWhereNeeded r.engine.checkpoint.base have s
+  pub donated_of_node : (n : Node) (r : Replica D) → Holds g n r → (have : Have) (h : Header) → h.format ≡ Two → h.uuid ≡ r.engine.checkpoint.base.uuid → h.shape ≡ shape_of r.engine.checkpoint.base.params → (s : Option Snapshot) → ComesWhereNeeded r.engine.checkpoint.base have s
       → IfSome s (IsSnapshotOf n) → (blocks : List (List Judged)) → records_of blocks ≡ durable_items n → (last : ℕ) → last ≡ durable_of r.engine.log → IsTransfer (record { header = h; snapshot = s; records = above (behind have s) (records_of blocks); last = last })
       → IsDonated n have (record { header = h; snapshot = s; records = above (behind have s) (records_of blocks); last = last })
   donated_of_node n r holds have h two uuid shape s comes known blocks is last last_is is_transfer = record {
@@ -426,6 +422,6 @@ module _ {D : Type 0} (honest : D → Type 0) (history : D → History) (failure
     format = two;
     uuid = uuid ∙ sym (ap (λ (x : Standing). x.uuid) holds.facts);
     shape = shape ∙ ap shape_of (sym (ap (λ (x : Standing). x.setting) holds.facts));
-    brings = brings_of n r.engine.checkpoint.base have s blocks (ap (λ (x : Standing). x.base) holds.facts) comes known is (all_above honest history failures n r holds);
+    brings = brings_of n r.engine.checkpoint.base have s blocks (ap (λ (x : Standing). x.base) holds.facts) comes known is (all_above g n r holds);
     last = last_is ∙ sym (ap (λ (x : Standing). x.durable) holds.facts);
   }

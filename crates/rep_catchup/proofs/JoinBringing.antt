@@ -14,7 +14,7 @@ use Rattle.rep_types.specs.Order.{State}
 use Rattle.rep_types.specs.Windows.{Window}
 use Rattle.rep_forms.specs.Forms.{number, number_bytes}
 use Rattle.rep_forms.specs.FormLaws.{number_is_form}
-use Rattle.rep_disk.specs.History.{History}
+use Rattle.rep_disk.specs.declared.disk.Disk.{Ghosts}
 use Rattle.rep_disk.specs.Moments.{LeavesOnly}
 use Rattle.rep_disk.specs.Leaving.{leaves_none, leaves_weaker, leaves_both, leaves_then}
 use Rattle.rep_layout.specs.declared.format.Format.{Format}
@@ -111,13 +111,13 @@ of_new_page : (b : SuperBody) (next : Next) (p : NumberedPage) → IsNewPage b n
 of_new_page b next p new = record { first = new.first; begins = new.begins; size = new.size; past = new.past }
 
 -- The pages that came so far, below the least that may come next; that is the least above them, and those from there on are in no slot.
-pub record Came {D : Type 0} (honest : D → Type 0) (history : D → History) (failures : D → ℕ) (old now : Bringing D) (count least from at : ℕ) (before left : Option (List ℕ)) : Type 0 where
+pub record Came {D : Type 0} (g : Ghosts D) (old now : Bringing D) (count least from at : ℕ) (before left : Option (List ℕ)) : Type 0 where
   pub pages : List NumberedPage
   pub size : length pages ≡ count
   pub below : All (λ (n : ℕ). n < least) (map number_of pages)
   pub tight : (k : ℕ) → All (λ (n : ℕ). n < k) (map number_of pages) → least ≤ k
   pub free : (page : ℕ) → least ≤ page → state_of_page now.coming.next.super page ≡ Nowhere
-  pub takes : TakesPages honest history failures old now pages from at before left
+  pub takes : TakesPages g old now pages from at before left
 
 at_length : (xs : List ℕ) (y : ℕ) (ys : List ℕ) → get_or (xs ++ y ∷ ys) (length xs) 0 ≡ y
 at_length [] y ys = refl
@@ -137,8 +137,8 @@ all_below xs y ys up =
     let apart : get_or (xs ++ y ∷ ys) i 0 < get_or (xs ++ y ∷ ys) (length xs) 0 = AllPairs-from_increasing (xs ++ y ∷ ys) up i (length xs) 0 within (omega (arith, size)) in
     omega (arith, apart, low, high))
 
-module _ {D : Type 0} (honest : D → Type 0) (history : D → History) (failures : D → ℕ) where
-  pub came_none : (old : Bringing D) (start : ℕ) (before : Option (List ℕ)) → old.engine.halted ≡ None → ((page : ℕ) → state_of_page old.coming.next.super page ≡ Nowhere) → Came honest history failures old old 0 0 start start before before
+module _ {D : Type 0} (g : Ghosts D) where
+  pub came_none : (old : Bringing D) (start : ℕ) (before : Option (List ℕ)) → old.engine.halted ≡ None → ((page : ℕ) → state_of_page old.coming.next.super page ≡ Nowhere) → Came g old old 0 0 start start before before
   came_none old start before running free = record {
     pages = [];
     size = refl;
@@ -155,16 +155,16 @@ module _ {D : Type 0} (honest : D → Type 0) (history : D → History) (failure
       params = refl;
       base = refl;
       holds = λ n y h. h;
-      leaves = λ n y h. leaves_none (history old.engine.disk) (history old.engine.disk) refl;
+      leaves = λ n y h. leaves_none (g.history old.engine.disk) (g.history old.engine.disk) refl;
     };
   }
 
-  module _ (old now new : Bringing D) (count least from mid at : ℕ) (start before left : Option (List ℕ)) (p : NumberedPage) (came : Came honest history failures old now count least from mid start before) where
+  module _ (old now new : Bringing D) (count least from mid at : ℕ) (start before left : Option (List ℕ)) (p : NumberedPage) (came : Came g old now count least from mid start before) where
     pub came_more : PageFits p → Took mid at before left (page_bytes p) → least ≤ p.number → IsNewPage now.engine.checkpoint.base now.coming.next p.number p.rows → new.engine.halted ≡ None
         → new ≡ record now { engine = record now.engine { disk = new.engine.disk; halted = new.engine.halted }; coming = new.coming } → new.coming ≡ placed now.engine.checkpoint.base p.number now.coming
-        → ((n : Node) (y : State) → HoldsBoth honest history failures n y now → HoldsBoth honest history failures n (with_page now.engine.checkpoint.base.params.rows p.number p.rows y) new)
-        → ((n : Node) (y : State) → HoldsBoth honest history failures n y now → LeavesOnly (history now.engine.disk) (history new.engine.disk) (IsFrontAt Means n))
-        → Came honest history failures old new (count + 1) (p.number + 1) from at start left
+        → ((n : Node) (y : State) → HoldsBoth g n y now → HoldsBoth g n (with_page now.engine.checkpoint.base.params.rows p.number p.rows y) new)
+        → ((n : Node) (y : State) → HoldsBoth g n y now → LeavesOnly (g.history now.engine.disk) (g.history new.engine.disk) (IsFrontAt Means n))
+        → Came g old new (count + 1) (p.number + 1) from at start left
     came_more fits took above is_new running still done holds leaves =
         let pages : List NumberedPage = came.pages in
         let t = came.takes in
@@ -190,23 +190,23 @@ module _ {D : Type 0} (honest : D → Type 0) (history : D → History) (failure
             holds = λ n y h.
                 let was = t.holds n y h in
                 let z : State = with_pages old.engine.checkpoint.base.params.rows pages y in
-                subst (λ (x : State). HoldsBoth honest history failures n x new) (sym (with_more old.engine.checkpoint.base.params.rows pages p y))
-                (subst (λ (b : SuperBody). HoldsBoth honest history failures n (with_page b.params.rows p.number p.rows z) new) base_is (holds n z was));
-            leaves = λ n y h. leaves_both (history old.engine.disk) (history now.engine.disk) (history new.engine.disk) (t.leaves n y h) (leaves n (with_pages old.engine.checkpoint.base.params.rows pages y) (t.holds n y h));
+                subst (λ (x : State). HoldsBoth g n x new) (sym (with_more old.engine.checkpoint.base.params.rows pages p y))
+                (subst (λ (b : SuperBody). HoldsBoth g n (with_page b.params.rows p.number p.rows z) new) base_is (holds n z was));
+            leaves = λ n y h. leaves_both (g.history old.engine.disk) (g.history now.engine.disk) (g.history new.engine.disk) (t.leaves n y h) (leaves n (with_pages old.engine.checkpoint.base.params.rows pages y) (t.holds n y h));
           };
         }
 
     -- the same by a number that is the page's
     pub came_at : (number : ℕ) → p.number ≡ number → PageFits p → Took mid at before left (page_bytes p) → least ≤ number → IsNewPage now.engine.checkpoint.base now.coming.next number p.rows → new.engine.halted ≡ None
         → new ≡ record now { engine = record now.engine { disk = new.engine.disk; halted = new.engine.halted }; coming = new.coming } → new.coming ≡ placed now.engine.checkpoint.base number now.coming
-        → ((n : Node) (y : State) → HoldsBoth honest history failures n y now → HoldsBoth honest history failures n (with_page now.engine.checkpoint.base.params.rows number p.rows y) new)
-        → ((n : Node) (y : State) → HoldsBoth honest history failures n y now → LeavesOnly (history now.engine.disk) (history new.engine.disk) (IsFrontAt Means n))
-        → Came honest history failures old new (count + 1) (number + 1) from at start left
+        → ((n : Node) (y : State) → HoldsBoth g n y now → HoldsBoth g n (with_page now.engine.checkpoint.base.params.rows number p.rows y) new)
+        → ((n : Node) (y : State) → HoldsBoth g n y now → LeavesOnly (g.history now.engine.disk) (g.history new.engine.disk) (IsFrontAt Means n))
+        → Came g old new (count + 1) (number + 1) from at start left
     came_at number same fits took above is_new running still done holds leaves =
-        subst (λ (k : ℕ). Came honest history failures old new (count + 1) (k + 1) from at start left) same
+        subst (λ (k : ℕ). Came g old new (count + 1) (k + 1) from at start left) same
         (came_more fits took (subst (λ (k : ℕ). least ≤ k) (sym same) above) (subst (λ (k : ℕ). IsNewPage now.engine.checkpoint.base now.coming.next k p.rows) (sym same) is_new) running still
         (done ∙ ap (λ (k : ℕ). placed now.engine.checkpoint.base k now.coming) (sym same))
-        (λ n y h. subst (λ (k : ℕ). HoldsBoth honest history failures n (with_page now.engine.checkpoint.base.params.rows k p.rows y) new) (sym same) (holds n y h)) leaves)
+        (λ n y h. subst (λ (k : ℕ). HoldsBoth g n (with_page now.engine.checkpoint.base.params.rows k p.rows y) new) (sym same) (holds n y h)) leaves)
 
     -- one stands there that cannot come
     pub no_such_page : (all : ℕ) → count < all → PageFits p → Consumes before left (page_bytes p) → (least ≤ p.number → IsNewPage now.engine.checkpoint.base now.coming.next p.number p.rows → ⊥) → IfSome start (NoPagesCome old.engine.checkpoint.base.params.rows all)
@@ -233,21 +233,21 @@ module _ {D : Type 0} (honest : D → Type 0) (history : D → History) (failure
             (subst IsStrictlyIncreasing (ap (map number_of) front.1 ∙ map-append number_of came.pages front.0) ascend) behind more rest second front.2
 
     -- the device failed while it was written
-    pub pages_failed : ((n : Node) (y : State) → HoldsBoth honest history failures n y now → HoldsBoth honest history failures (halted_node (failures new.engine.disk) n) y new)
-        → ((n : Node) (y : State) → HoldsBoth honest history failures n y now → LeavesOnly (history now.engine.disk) (history new.engine.disk) (IsFrontAt Means n)) → (n : Node) (y : State) → HoldsBoth honest history failures n y old → LeavesPages honest history failures n old new
+    pub pages_failed : ((n : Node) (y : State) → HoldsBoth g n y now → HoldsBoth g (halted_node (g.failures new.engine.disk) n) y new)
+        → ((n : Node) (y : State) → HoldsBoth g n y now → LeavesOnly (g.history now.engine.disk) (g.history new.engine.disk) (IsFrontAt Means n)) → (n : Node) (y : State) → HoldsBoth g n y old → LeavesPages g n old new
     pages_failed halts leaves n y h =
         let z : State = with_pages old.engine.checkpoint.base.params.rows came.pages y in
         let was = came.takes.holds n y h in
         record {
-          node = halted_node (failures new.engine.disk) n;
+          node = halted_node (g.failures new.engine.disk) n;
           still = refl;
           state = z;
           holds = halts n z was;
-          leaves = leaves_both (history old.engine.disk) (history now.engine.disk) (history new.engine.disk) (came.takes.leaves n y h) (leaves n z was);
+          leaves = leaves_both (g.history old.engine.disk) (g.history now.engine.disk) (g.history new.engine.disk) (came.takes.leaves n y h) (leaves n z was);
         }
 
   -- no page stands there
-  pub no_page_stands : (old now : Bringing D) (count least from mid : ℕ) (start before : Option (List ℕ)) → Came honest history failures old now count least from mid start before → (all : ℕ) → count < all → IfSome before (BeginWithNone PageFits page_bytes)
+  pub no_page_stands : (old now : Bringing D) (count least from mid : ℕ) (start before : Option (List ℕ)) → Came g old now count least from mid start before → (all : ℕ) → count < all → IfSome before (BeginWithNone PageFits page_bytes)
       → IfSome start (NoPagesCome old.engine.checkpoint.base.params.rows all)
   no_page_stands old now count least from mid start before came all few none = by start (none_more page_form page_is_form came.pages all start before came.takes.took.taken came.takes.fit (omega (arith, few, came.size)) none)
     where
@@ -256,7 +256,7 @@ module _ {D : Type 0} (honest : D → Type 0) (history : D → History) (failure
       by (Some bytes) never = λ ys rest size fits is ascend pages. never ys rest size fits is
 
   -- no more was put
-  pub pages_stay : (old now : Bringing D) (count least from at : ℕ) (before left : Option (List ℕ)) → Came honest history failures old now count least from at before left → (n : Node) (y : State) → HoldsBoth honest history failures n y old → LeavesPages honest history failures n old now
+  pub pages_stay : (old now : Bringing D) (count least from at : ℕ) (before left : Option (List ℕ)) → Came g old now count least from at before left → (n : Node) (y : State) → HoldsBoth g n y old → LeavesPages g n old now
   pages_stay old now count least from at before left came n y h = record { node = n; still = refl; state = with_pages old.engine.checkpoint.base.params.rows came.pages y; holds = came.takes.holds n y h; leaves = came.takes.leaves n y h }
 
 -- a page that was written leaves the device running
@@ -282,13 +282,13 @@ none_came b uuid position start v i is page = ap (λ (c : Coming). state_of_page
 
 -- what a snapshot that is given up leaves
 
-module _ {D : Type 0} (honest : D → Type 0) (history : D → History) (failures : D → ℕ) where
+module _ {D : Type 0} (g : Ghosts D) where
   -- nothing was asked of the device
-  pub given_at_once : (r : Replica D) → GivenUp honest history failures r r
-  given_at_once r n holds = record { node = n; still = refl; holds = holds; leaves = leaves_none (history r.engine.disk) (history r.engine.disk) refl }
+  pub given_at_once : (r : Replica D) → GivenUp g r r
+  given_at_once r n holds = record { node = n; still = refl; holds = holds; leaves = leaves_none (g.history r.engine.disk) (g.history r.engine.disk) refl }
 
-  pub given_behind : (old : Replica D) (i k : Bringing D) (y : State) → i.engine ≡ old.engine → ((n : Node) → Holds honest history failures n old → HoldsBoth honest history failures n y i) → ((n : Node) (z : State) → HoldsBoth honest history failures n z i → LeavesPages honest history failures n i k)
-      → (new : Replica D) → new ≡ given_up k → ((n : Node) (z : State) → HoldsBoth honest history failures n z k → Holds honest history failures n new) → GivenUp honest history failures old new
+  pub given_behind : (old : Replica D) (i k : Bringing D) (y : State) → i.engine ≡ old.engine → ((n : Node) → Holds g n old → HoldsBoth g n y i) → ((n : Node) (z : State) → HoldsBoth g n z i → LeavesPages g n i k)
+      → (new : Replica D) → new ≡ given_up k → ((n : Node) (z : State) → HoldsBoth g n z k → Holds g n new) → GivenUp g old new
   given_behind old i k y same begun pages new is held n holds =
       let left = pages n y (begun n holds) in
       record {
@@ -296,18 +296,18 @@ module _ {D : Type 0} (honest : D → Type 0) (history : D → History) (failure
         still = left.still;
         holds = held left.node left.state left.holds;
         leaves =
-            subst (λ (r : Replica D). LeavesOnly (history old.engine.disk) (history r.engine.disk) (IsFrontAt Means n)) (sym is)
-            (subst (λ (e : Engine D). LeavesOnly (history e.disk) (history k.engine.disk) (IsFrontAt Means n)) same left.leaves);
+            subst (λ (r : Replica D). LeavesOnly (g.history old.engine.disk) (g.history r.engine.disk) (IsFrontAt Means n)) (sym is)
+            (subst (λ (e : Engine D). LeavesOnly (g.history e.disk) (g.history k.engine.disk) (IsFrontAt Means n)) same left.leaves);
       }
 
 -- what one image means
 
-module _ {D : Type 0} (honest : D → Type 0) (history : D → History) (failures : D → ℕ) (old new : Replica D) (i k : Bringing D) (format : Format) (uuid : List ℕ) (position : ℕ) (v : Window) (count from mid now : ℕ) (start before left : Option (List ℕ))
-    (window : TakesWindow format (facts_of failures old) position v count from mid start before) (begun : (i.engine ≡ old.engine) × (i.coming ≡ coming old.engine.checkpoint.base uuid position old.engine.log.next v)) where
+module _ {D : Type 0} (g : Ghosts D) (old new : Replica D) (i k : Bringing D) (format : Format) (uuid : List ℕ) (position : ℕ) (v : Window) (count from mid now : ℕ) (start before left : Option (List ℕ))
+    (window : TakesWindow format (facts_of g old) position v count from mid start before) (begun : (i.engine ≡ old.engine) × (i.coming ≡ coming old.engine.checkpoint.base uuid position old.engine.log.next v)) where
   setting_is : i.engine.checkpoint.base.params ≡ old.engine.checkpoint.base.params
   setting_is = ap (λ (e : Engine D). e.checkpoint.base.params) begun.0
 
-  module _ (quiet : is_quiet (facts_of failures old) ≡ true) (pages : List NumberedPage) (size : length pages ≡ count) (t : TakesPages honest history failures i k pages mid now before left) where
+  module _ (quiet : is_quiet (facts_of g old) ≡ true) (pages : List NumberedPage) (size : length pages ≡ count) (t : TakesPages g i k pages mid now before left) where
     abbrev snapshot : Snapshot
     snapshot = record { position = position; kept = v; pages = pages }
 
@@ -325,7 +325,7 @@ module _ {D : Type 0} (honest : D → Type 0) (history : D → History) (failure
         let kept = kept_fits old.engine.checkpoint.base.params position v small window.kept.is_window in
         record { position = small; size = kept.0; floor = kept.1; few = kept.2; entries = window.kept.fit; some = subst (λ n. n < 2 ^ 16) (sym size) window.few; pages = t.fit }
 
-    takes : TakesSnapshot format (facts_of failures old) position snapshot from now start left
+    takes : TakesSnapshot format (facts_of g old) position snapshot from now start left
     takes = record {
       fits = fits;
       told = window.kept.told;
@@ -341,8 +341,8 @@ module _ {D : Type 0} (honest : D → Type 0) (history : D → History) (failure
           (took_then from mid now start before left (kept_bytes format v ++ number_bytes 2 count) (flat_map page_bytes pages) window.took t.took);
     }
       where
-        later : ((facts_of failures old).durable < position) ⊎ IsNil (facts_of failures old).uuid → (delivered (facts_of failures old) < position) ⊎ IsNil (facts_of failures old).uuid
-        later (inl below) = inl (omega (arith, below, ap length (none_ahead (facts_of failures old) quiet)))
+        later : ((facts_of g old).durable < position) ⊎ IsNil (facts_of g old).uuid → (delivered (facts_of g old) < position) ⊎ IsNil (facts_of g old).uuid
+        later (inl below) = inl (omega (arith, below, ap length (none_ahead (facts_of g old) quiet)))
         later (inr nil) = inr nil
 
     abbrev state : State
@@ -355,20 +355,20 @@ module _ {D : Type 0} (honest : D → Type 0) (history : D → History) (failure
     position_is : state.position ≡ position
     position_is = state_position old.engine.checkpoint.base.params snapshot
 
-    module _ (cluster : (uuid ≡ (facts_of failures old).uuid) ⊎ IsNil (facts_of failures old).uuid) (both : (n : Node) → Holds honest history failures n old → HoldsBoth honest history failures n (blank position v) i) (n : Node) (holds : Holds honest history failures n old) where
+    module _ (cluster : (uuid ≡ (facts_of g old).uuid) ⊎ IsNil (facts_of g old).uuid) (both : (n : Node) → Holds g n old → HoldsBoth g n (blank position v) i) (n : Node) (holds : Holds g n old) where
       can : CanCome n uuid state
       can = record { cluster = of cluster; later = behind takes.later }
         where
-          of : (uuid ≡ (facts_of failures old).uuid) ⊎ IsNil (facts_of failures old).uuid → (uuid ≡ n.facts.uuid) ⊎ IsNil n.facts.uuid
+          of : (uuid ≡ (facts_of g old).uuid) ⊎ IsNil (facts_of g old).uuid → (uuid ≡ n.facts.uuid) ⊎ IsNil n.facts.uuid
           of (inl same) = inl (same ∙ sym (ap (λ (s : Standing). s.uuid) holds.facts))
           of (inr nil) = inr (subst IsNil (sym (ap (λ (s : Standing). s.uuid) holds.facts)) nil)
 
-          behind : (delivered (facts_of failures old) < position) ⊎ IsNil (facts_of failures old).uuid → (delivered n.facts < state.position) ⊎ IsNil n.facts.uuid
+          behind : (delivered (facts_of g old) < position) ⊎ IsNil (facts_of g old).uuid → (delivered n.facts < state.position) ⊎ IsNil n.facts.uuid
           behind (inl below) = inl (omega (arith, below, position_is, ap delivered holds.facts))
           behind (inr nil) = inr (subst IsNil (sym (ap (λ (s : Standing). s.uuid) holds.facts)) nil)
 
-      stood : HoldsBoth honest history failures n state k
-      stood = subst (λ (y : State). HoldsBoth honest history failures n y k) state_is (t.holds n (blank position v) (both n holds))
+      stood : HoldsBoth g n state k
+      stood = subst (λ (y : State). HoldsBoth g n y k) state_is (t.holds n (blank position v) (both n holds))
 
       setting_of : n.facts.setting ≡ old.engine.checkpoint.base.params
       setting_of = ap (λ (s : Standing). s.setting) holds.facts
@@ -381,13 +381,13 @@ module _ {D : Type 0} (honest : D → Type 0) (history : D → History) (failure
       either image (inl front) = inl front
       either image (inr means) = inr (subst (Means image) named means)
 
-      leaves : LeavesOnly (history k.engine.disk) (history new.engine.disk) (MeansEither n k.coming.next.super state) → LeavesOnly (history old.engine.disk) (history new.engine.disk) (MeansOneOf n uuid state)
+      leaves : LeavesOnly (g.history k.engine.disk) (g.history new.engine.disk) (MeansEither n k.coming.next.super state) → LeavesOnly (g.history old.engine.disk) (g.history new.engine.disk) (MeansOneOf n uuid state)
       leaves last =
-          leaves_then (history old.engine.disk) (history k.engine.disk) (history new.engine.disk)
-          (leaves_weaker (history old.engine.disk) (history k.engine.disk) (λ image f. inl f) (subst (λ (e : Engine D). LeavesOnly (history e.disk) (history k.engine.disk) (IsFrontAt Means n)) begun.0 (t.leaves n (blank position v) (both n holds))))
+          leaves_then (g.history old.engine.disk) (g.history k.engine.disk) (g.history new.engine.disk)
+          (leaves_weaker (g.history old.engine.disk) (g.history k.engine.disk) (λ image f. inl f) (subst (λ (e : Engine D). LeavesOnly (g.history e.disk) (g.history k.engine.disk) (IsFrontAt Means n)) begun.0 (t.leaves n (blank position v) (both n holds))))
           last either
 
-      came_whole : (m : Node) × IsInstalled k.coming.next.super state m × Holds honest history failures m new → LeavesOnly (history k.engine.disk) (history new.engine.disk) (MeansEither n k.coming.next.super state) → BroughtAt honest history failures n uuid state old new
+      came_whole : (m : Node) × IsInstalled k.coming.next.super state m × Holds g m new → LeavesOnly (g.history k.engine.disk) (g.history new.engine.disk) (MeansEither n k.coming.next.super state) → BroughtAt g n uuid state old new
       came_whole (m, is, stands) last = record {
         can = can;
         node = m;
@@ -396,14 +396,14 @@ module _ {D : Type 0} (honest : D → Type 0) (history : D → History) (failure
         leaves = leaves last;
       }
 
-      broke : LeavesOnly (history k.engine.disk) (history new.engine.disk) (MeansEither n k.coming.next.super state) → BrokeAt history n uuid state old new
+      broke : LeavesOnly (g.history k.engine.disk) (g.history new.engine.disk) (MeansEither n k.coming.next.super state) → BrokeAt g n uuid state old new
       broke last = record { can = can; leaves = leaves last }
 
     -- where it took the base's place, or the device failed while it did
-    pub brought_on : (uuid ≡ (facts_of failures old).uuid) ⊎ IsNil (facts_of failures old).uuid → (at : ℕ) (result : Result (Unit {0}) Refusal) → Lands failures k new result
-        → ((n : Node) → Holds honest history failures n old → HoldsBoth honest history failures n (blank position v) i) → ((n : Node) (y : State) → HoldsBoth honest history failures n y k → Installs honest history failures n y k new result)
-        → OnOk result (Brought honest history failures old new format uuid position from now start left) × IfErr result (LeavesSnapshot honest history failures old new format uuid position from start)
-        × EndsRunning result new × IfErr result (BringsEarly format (facts_of failures old) position at start)
+    pub brought_on : (uuid ≡ (facts_of g old).uuid) ⊎ IsNil (facts_of g old).uuid → (at : ℕ) (result : Result (Unit {0}) Refusal) → Lands g k new result
+        → ((n : Node) → Holds g n old → HoldsBoth g n (blank position v) i) → ((n : Node) (y : State) → HoldsBoth g n y k → Installs g n y k new result)
+        → OnOk result (Brought g old new format uuid position from now start left) × IfErr result (LeavesSnapshot g old new format uuid position from start)
+        × EndsRunning result new × IfErr result (BringsEarly format (facts_of g old) position at start)
     brought_on cluster at (Ok x) lands both installs = (
       record {
         snapshot = snapshot;
@@ -427,7 +427,7 @@ module _ {D : Type 0} (honest : D → Type 0) (history : D → History) (failure
     )
 
   -- why it wasn't taken
-  pub early_pages : (at : ℕ) (e : Refusal) → (e ≡ StreamFault) ⊎ ((e ≡ DiskFault) ⊎ ((e ≡ Malformed at) × IfSome before (NoPagesCome i.engine.checkpoint.base.params.rows count))) → BringsEarly format (facts_of failures old) position at start e
+  pub early_pages : (at : ℕ) (e : Refusal) → (e ≡ StreamFault) ⊎ ((e ≡ DiskFault) ⊎ ((e ≡ Malformed at) × IfSome before (NoPagesCome i.engine.checkpoint.base.params.rows count))) → BringsEarly format (facts_of g old) position at start e
   early_pages at e (inl stream) = inl stream
   early_pages at e (inr (inl fault)) = inr (inr (inl fault))
-  early_pages at e (inr (inr (is, none))) = inr (inr (inr (is, no_pages format (facts_of failures old) position v count from mid start before window (subst (λ (p : Setting). IfSome before (NoPagesCome p.rows count)) setting_is none))))
+  early_pages at e (inr (inr (is, none))) = inr (inr (inr (is, no_pages format (facts_of g old) position v count from mid start before window (subst (λ (p : Setting). IfSome before (NoPagesCome p.rows count)) setting_is none))))

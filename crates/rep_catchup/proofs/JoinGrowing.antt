@@ -18,7 +18,7 @@ use Rattle.rep_types.specs.declared.limits.TheConstants.{MAX_SEQNO, MAX_AHEAD}
 use Rattle.rep_types.specs.Settings.{Setting}
 use Rattle.rep_types.specs.Order.{Order, items_of, history, verdict}
 use Rattle.rep_types.specs.ByItems.{HistoryByItems}
-use Rattle.rep_disk.specs.History.{History}
+use Rattle.rep_disk.specs.declared.disk.Disk.{Ghosts}
 use Rattle.rep_cert.specs.Holdings.{Holding, verdict_of}
 use Rattle.rep_layout.specs.Supers.{IsNil}
 use Rattle.rep_log.specs.declared.phase.Phase.{Phase}
@@ -39,7 +39,7 @@ use Rattle.rep_replica.specs.Replicas.{Replica, facts_of}
 use Rattle.rep_replica.specs.Holding.{Holds, IsStep, IsJudgedBy}
 use Rattle.rep_replica.specs.Running.{RunsAreJoined}
 use Rattle.rep_replica.specs.SettlingLaws.{settling_stays, settling_serves, done_is_none}
-use Rattle.rep_replica.specs.Settling.{IsRunning, IsDue, IsOwn, AreOwn, AreDone, EndsEarly, outcome_of, Works}
+use Rattle.rep_replica.specs.Settling.{IsRunning, IsDue, IsOwn, AreOwn, AreDone, EndsEarly, Works}
 use Rattle.rep_transfer.specs.declared.part.Part.TheVariants.{Record}
 use Rattle.rep_catchup.specs.Growing.{Grows, Grown, EndsRunning}
 use Rattle.rep_catchup.specs.Joining.{JoinsEarly, IsOut}
@@ -53,8 +53,8 @@ early_work e (inr (inr corrupt)) = inr (inr (inr (inr (inr corrupt))))
 
 -- ---- whether it runs
 
-pub is_stopped : {D : Type 0} (failures : D → ℕ) (r : Replica D) → IsRunning r → (r.stopped || is_some r.engine.halted) ≡ false
-is_stopped failures r running = rw (running.inside, running.device)
+pub is_stopped : {D : Type 0} (g : Ghosts D) (r : Replica D) → IsRunning r → (r.stopped || is_some r.engine.halted) ≡ false
+is_stopped g r running = rw (running.inside, running.device)
 
 runs_by : (a : Bool) (o : Option Phase) → (a || is_some o) ≡ false → (a ≡ false) × (o ≡ None)
 runs_by false None is = (refl, refl)
@@ -98,9 +98,6 @@ abbrev pub Outcome : Standing → Event → Answer → Standing → Type 0
 Outcome s e a t = ((found : Found) × (a ≡ answer s e found) × (t ≡ after s e found)) ⊎ (Fails s e a t ⊎ MeetsCorruption s e a t)
 
 -- ---- whether it is stopped then
-
-pub not_refused : (r : Refusal) (a : Answer) → a ≡ Refused r → outcome_of a ≡ Ok tt → ⊥
-not_refused r a is done = let never : Err r ≡ Ok tt = ap outcome_of (sym is) ∙ done in cc
 
 some_same : (r x : Refusal) → Some r ≡ Some x → r ≡ x
 some_same r x is = cc
@@ -304,12 +301,12 @@ module _ (by_items : HistoryByItems) where
 
   -- ---- how replicas grow
 
-  module _ {D : Type 0} (honest : D → Type 0) (history_of : D → History) (failures : D → ℕ) where
-    same_setting : (n : Node) (r : Replica D) → Holds honest history_of failures n r → n.facts.setting ≡ (facts_of failures r).setting
+  module _ {D : Type 0} (g : Ghosts D) where
+    same_setting : (n : Node) (r : Replica D) → Holds g n r → n.facts.setting ≡ (facts_of g r).setting
     same_setting n r holds = ap (λ (s : Standing). s.setting) holds.facts
 
-    module _ (joined : RunsAreJoined honest history_of failures) where
-      pub grown_none : (r : Replica D) → Grown honest history_of failures r r []
+    module _ (joined : RunsAreJoined g) where
+      pub grown_none : (r : Replica D) → Grown g r r []
       grown_none r = record {
         uuid = refl;
         setting = refl;
@@ -322,7 +319,7 @@ module _ (by_items : HistoryByItems) where
         node = λ n holds. (n, grows_none n n refl (λ L of. subst (λ (M : Order). IsOf M n) (sym (append-nil L)) of), holds);
       }
 
-      pub grown_then : (a b c : Replica D) (xs ys : List Judged) → Grown honest history_of failures a b xs → Grown honest history_of failures b c ys → Grown honest history_of failures a c (xs ++ ys)
+      pub grown_then : (a b c : Replica D) (xs ys : List Judged) → Grown g a b xs → Grown g b c ys → Grown g a c (xs ++ ys)
       grown_then a b c xs ys first second = record {
         uuid = second.uuid ∙ first.uuid;
         setting = second.setting ∙ first.setting;
@@ -340,16 +337,16 @@ module _ (by_items : HistoryByItems) where
       }
 
     -- it settled, as far as it came
-    pub settled : NodesStayNodes → RunsComeTo → (old new : Replica D) (result : Result (Unit {0}) Refusal) → Works honest history_of failures old new result → Grown honest history_of failures old new []
+    pub settled : NodesStayNodes → RunsComeTo → (old new : Replica D) (result : Result (Unit {0}) Refusal) → Works g old new result → Grown g old new []
     settled stay comes old new result w =
-        let stays = settling_stays w.events w.answers (facts_of failures old) (facts_of failures new) w.moves in
+        let stays = settling_stays w.events w.answers (facts_of g old) (facts_of g new) w.moves in
         record {
           uuid = stays.uuid;
           setting = stays.setting;
           count = omega (arith, stays.count);
           events = w.events;
           answers = w.answers;
-          paired = runs_paired IsDue w.events w.answers (facts_of failures old) (facts_of failures new) w.moves;
+          paired = runs_paired IsDue w.events w.answers (facts_of g old) (facts_of g new) w.moves;
           ran = w.ran;
           accepted = own_accept w.events w.answers w.own;
           node = λ n holds.
@@ -357,26 +354,26 @@ module _ (by_items : HistoryByItems) where
               (ran.0, grows_none n ran.0 (runs_count stay w.events w.answers n ran.0 holds.node w.own ran.1.runs) (λ L of. subst (λ (M : Order). IsOf (L ++ M) ran.0) (own_accept w.events w.answers w.own) (comes L n ran.0 w.events w.answers holds.node of ran.1.runs).order), ran.2);
         }
 
-    pub ends_running : (new : Replica D) (e : Refusal) → StopsBy e (facts_of failures new) → EndsRunning {T = Unit {0}} (Err e) new
+    pub ends_running : (new : Replica D) (e : Refusal) → StopsBy e (facts_of g new) → EndsRunning {T = Unit {0}} (Err e) new
     ends_running new e (inl fault) = inl fault
     ends_running new e (inr other) = inr (other.0, is_running new other.1)
 
-    ended_in : (old new : Replica D) (e : Refusal) → IsRunning old → Works honest history_of failures old new (Err e) → (e ≢ Stopped) × StopsBy e (facts_of failures new)
+    ended_in : (old new : Replica D) (e : Refusal) → IsRunning old → Works g old new (Err e) → (e ≢ Stopped) × StopsBy e (facts_of g new)
     ended_in old new e running w =
-        runs_stop e w.ends.0 w.events (facts_of failures old) (facts_of failures new) (is_stopped failures old running) w.own w.ends.1 (subst (λ (answers : List Answer). Runs IsDue (facts_of failures old) w.events answers (facts_of failures new)) w.ends.2 w.moves)
+        runs_stop e w.ends.0 w.events (facts_of g old) (facts_of g new) (is_stopped g old running) w.own w.ends.1 (subst (λ (answers : List Answer). Runs IsDue (facts_of g old) w.events answers (facts_of g new)) w.ends.2 w.moves)
 
-    pub settled_ends : (old new : Replica D) (result : Result (Unit {0}) Refusal) → IsRunning old → Works honest history_of failures old new result → EndsRunning result new
-    settled_ends old new (Ok x) running w = is_running new ((settling_serves w.events w.answers (facts_of failures old) (facts_of failures new) w.ends w.moves).stopped ∙ is_stopped failures old running)
+    pub settled_ends : (old new : Replica D) (result : Result (Unit {0}) Refusal) → IsRunning old → Works g old new result → EndsRunning result new
+    settled_ends old new (Ok x) running w = is_running new ((settling_serves w.events w.answers (facts_of g old) (facts_of g new) w.ends w.moves).stopped ∙ is_stopped g old running)
     settled_ends old new (Err e) running w = ends_running new e (ended_in old new e running w).1
 
-    pub settle_early : (old new : Replica D) (result : Result (Unit {0}) Refusal) → IsRunning old → Works honest history_of failures old new result → IfErr result (λ e. (e ≡ Stopped) ⊎ EndsEarly e) → IfErr result EndsEarly
+    pub settle_early : (old new : Replica D) (result : Result (Unit {0}) Refusal) → IsRunning old → Works g old new result → IfErr result (λ e. (e ≡ Stopped) ⊎ EndsEarly e) → IfErr result EndsEarly
     settle_early old new (Ok x) running w early = tt
     settle_early old new (Err e) running w (inl stopped) = absurd ((ended_in old new e running w).0 stopped)
     settle_early old new (Err e) running w (inr early) = early
 
     -- ---- an item was delivered
 
-    module _ (joined : RunsAreJoined honest history_of failures) (holds_order : NodesHoldTheOrder) (follow : StepsFollowTheOrder) (old new : Replica D) (seqno : ℕ) (i : Item) where
+    module _ (joined : RunsAreJoined g) (holds_order : NodesHoldTheOrder) (follow : StepsFollowTheOrder) (old new : Replica D) (seqno : ℕ) (i : Item) where
       abbrev one_item : ℕ → Verdict → List Judged
       one_item k v = record { seqno = k; item = i; verdict = v } ∷ []
 
@@ -404,13 +401,13 @@ module _ (by_items : HistoryByItems) where
       came_by s t v None (inr (inl (inr fault))) = let never = fault.1 in absurd cc
       came_by s t v None (inr (inr corrupt)) = let never = corrupt.1 in absurd cc
 
-      pub came : (v : Verdict) → Moves (facts_of failures old) (delivery seqno i) (Gave v) (facts_of failures new) → Came (facts_of failures old) (facts_of failures new)
-      came v m = came_by (facts_of failures old) (facts_of failures new) v (refusal (facts_of failures old) (delivery seqno i)) m
+      pub came : (v : Verdict) → Moves (facts_of g old) (delivery seqno i) (Gave v) (facts_of g new) → Came (facts_of g old) (facts_of g new)
+      came v m = came_by (facts_of g old) (facts_of g new) v (refusal (facts_of g old) (delivery seqno i)) m
 
-      pub delivered_runs : (v : Verdict) → IsRunning old → Moves (facts_of failures old) (delivery seqno i) (Gave v) (facts_of failures new) → IsRunning new
-      delivered_runs v running m = is_running new ((came v m).stopped ∙ is_stopped failures old running)
+      pub delivered_runs : (v : Verdict) → IsRunning old → Moves (facts_of g old) (delivery seqno i) (Gave v) (facts_of g new) → IsRunning new
+      delivered_runs v running m = is_running new ((came v m).stopped ∙ is_stopped g old running)
 
-      delivered_one : (v : Verdict) → seqno ≡ delivered (facts_of failures old) + 1 → IsStep honest history_of failures old (delivery seqno i) (Gave v) new → Grown honest history_of failures old new (record { seqno = seqno; item = i; verdict = v } ∷ [])
+      delivered_one : (v : Verdict) → seqno ≡ delivered (facts_of g old) + 1 → IsStep g old (delivery seqno i) (Gave v) new → Grown g old new (record { seqno = seqno; item = i; verdict = v } ∷ [])
       delivered_one v next step =
           let is = came v step.moves in
           record {
@@ -435,10 +432,10 @@ module _ (by_items : HistoryByItems) where
                 );
           }
 
-      pub delivered_judged : (j : Judged) (v : Verdict) → j.seqno ≡ seqno → j.item ≡ i → v ≡ j.verdict → seqno ≡ delivered (facts_of failures old) + 1 → IsStep honest history_of failures old (delivery seqno i) (Gave v) new
-          → Grown honest history_of failures old new (j ∷ [])
+      pub delivered_judged : (j : Judged) (v : Verdict) → j.seqno ≡ seqno → j.item ≡ i → v ≡ j.verdict → seqno ≡ delivered (facts_of g old) + 1 → IsStep g old (delivery seqno i) (Gave v) new
+          → Grown g old new (j ∷ [])
       delivered_judged j v at item judged next step =
-          subst (λ (k : Judged). Grown honest history_of failures old new (k ∷ []))
+          subst (λ (k : Judged). Grown g old new (k ∷ []))
           (ap (λ (n : ℕ). judged_as n i v) (sym at) ∙ ap (λ (i : Item). judged_as j.seqno i v) (sym item) ∙ ap (judged_as j.seqno j.item) judged)
           (delivered_one v next step)
 
@@ -451,9 +448,9 @@ module _ (by_items : HistoryByItems) where
       refused_count r n m None (inl went) = let never = went.0 ∙ delivery_answer seqno n.facts i (found n (delivery seqno i)) in absurd cc
       refused_count r n m None (inr (failed, rest)) = failed_count n m (delivery seqno i) (Refused r) failed
 
-      pub delivered_none : (r : Refusal) → IsStep honest history_of failures old (delivery seqno i) (Refused r) new → Grown honest history_of failures old new []
+      pub delivered_none : (r : Refusal) → IsStep g old (delivery seqno i) (Refused r) new → Grown g old new []
       delivered_none r step =
-          let stays = move_stays (facts_of failures old) (delivery seqno i) (Refused r) (facts_of failures new) step.moves in
+          let stays = move_stays (facts_of g old) (delivery seqno i) (Refused r) (facts_of g new) step.moves in
           record {
             uuid = stays.uuid;
             setting = stays.setting;
@@ -511,11 +508,11 @@ delivery_early s t seqno i e running not next limit few m =
 
 -- ---- why an item isn't the next one
 
-module _ {D : Type 0} (failures : D → ℕ) (r : Replica D) (j : Judged) (at : ℕ) where
-  pub out_by_seqno : (n : ℕ) → n ≡ delivered (facts_of failures r) → (j.seqno ≡ n + 1 → ⊥) → IsOut failures r (Record j) at (Malformed at)
+module _ {D : Type 0} (g : Ghosts D) (r : Replica D) (j : Judged) (at : ℕ) where
+  pub out_by_seqno : (n : ℕ) → n ≡ delivered (facts_of g r) → (j.seqno ≡ n + 1 → ⊥) → IsOut g r (Record j) at (Malformed at)
   out_by_seqno n here other = inr (refl, λ may. other (may.1.seqno ∙ ap (λ k. k + 1) (sym here)))
 
-  pub out_by_verdict : (verdict_of r.certifier.current j.item ≡ j.verdict → ⊥) → IsOut failures r (Record j) at (Malformed at)
+  pub out_by_verdict : (verdict_of r.certifier.current j.item ≡ j.verdict → ⊥) → IsOut g r (Record j) at (Malformed at)
   out_by_verdict other = inr (refl, λ may. other (sym may.1.verdict))
 
 -- ---- by which verdict it is answered

@@ -9,6 +9,7 @@ use Rattle.rep_replica.specs.Replicas.{Replica}
 use Rattle.rep_replica.specs.Settling.{EndsEarly}
 use Rattle.rep_transfer.specs.declared.part.Part.{Part}
 use Rattle.rep_catchup.specs.Joining.{IsOut}
+use Rattle.rep_disk.specs.declared.disk.Disk.{Ghosts}
 
 -- ---- what is no fault of a stream
 
@@ -17,9 +18,9 @@ works_other e (inl is) fault = absurd (let never : OutOfMemory ≡ StreamFault =
 works_other e (inr (inl is)) fault = absurd (let never : DiskFault ≡ StreamFault = sym is ∙ fault in cc)
 works_other e (inr (inr is)) fault = absurd (let never : Corrupt Pages ≡ StreamFault = sym is ∙ fault in cc)
 
-pub out_is_other : {D : Type 0} (failures : D → ℕ) (r : Replica D) (part : Part) (at : ℕ) (e : Refusal) → IsOut failures r part at e → e ≢ StreamFault
-out_is_other failures r part at e (inl work) fault = works_other e work fault
-out_is_other failures r part at e (inr out) fault = absurd (let never : Malformed at ≡ StreamFault = sym out.0 ∙ fault in cc)
+pub out_is_other : {D : Type 0} (g : Ghosts D) (r : Replica D) (part : Part) (at : ℕ) (e : Refusal) → IsOut g r part at e → e ≢ StreamFault
+out_is_other g r part at e (inl work) fault = works_other e work fault
+out_is_other g r part at e (inr out) fault = absurd (let never : Malformed at ≡ StreamFault = sym out.0 ∙ fault in cc)
 
 -- ---- a refusal that is none
 

@@ -20,9 +20,6 @@ use Rattle.rep_catchup.specs.Snapshots.{Took}
 pub counted_small : (at : ℕ) → at < 2 ^ 64 → counted at 0 ≡ at
 counted_small at small = omega (arith, small)
 
-counted_then : (a b c n m : ℕ) → counted b 0 ≡ counted a n → c ≡ counted b m → counted c 0 ≡ counted a (n + m)
-counted_then a b c n m first second = omega (arith, first, second)
-
 pub counted_both : (a b c n m : ℕ) → counted b 0 ≡ counted a n → counted c 0 ≡ counted b m → counted c 0 ≡ counted a (n + m)
 counted_both a b c n m first second = omega (arith, first, second)
 

@@ -1,6 +1,6 @@
 -- What a refusal tells of the device, part by part.
 use Rattle.std.proofs.Common.{◌≡◌, ◌⊎◌, inl, inr, ℕ, ◌+◌, ◌≤◌, ◌<◌, true, false, List, [], ◌∷◌, ◌++◌, length, Option, None, Some, Result, Ok, Err, refl, sym, ap, subst, ◌∙◌}
-use Rattle.std.specs.Prelude.{◌≢◌, IsOk, IsErr, IfErr, MatchOption}
+use Rattle.std.specs.Prelude.{◌≢◌, IsOk, IfErr, MatchOption}
 use Rattle.rep_types.specs.declared.refusal.Refusal.{Refusal}
 use Rattle.rep_types.specs.declared.refusal.Refusal.TheVariants.{Stopped, NotDue, LogFull, OutOfMemory, DiskFault, Corrupt, Malformed, StreamFault, WrongCluster}
 use Rattle.rep_types.specs.declared.refusal.Part.{Part}
@@ -9,8 +9,7 @@ use Rattle.rep_types.specs.declared.judged.Judged.{Judged}
 use Rattle.rep_types.specs.declared.verdict.Verdict.{Verdict}
 use Rattle.rep_types.specs.declared.limits.TheConstants.{MAX_SEQNO, MAX_AHEAD}
 use Rattle.rep_types.specs.declared.item.Item.{Item}
-use Rattle.rep_disk.specs.History.{History}
-use Rattle.rep_disk.specs.Calls.{Rises, IsCall}
+use Rattle.rep_disk.specs.declared.disk.Disk.{Ghosts}
 use Rattle.rep_layout.specs.declared.format.Format.{Format}
 use Rattle.rep_layout.specs.Supers.{IsNil}
 use Rattle.rep_log.specs.Moves.{fault_of}
@@ -141,47 +140,47 @@ delivery_tells s t seqno i e (inr failed) = failed_tells s (delivery seqno i) e 
 
 -- ---- of a replica
 
-module _ {D : Type 0} (honest : D → Type 0) (history : D → History) (failures : D → ℕ) where
+module _ {D : Type 0} (g : Ghosts D) where
   -- nothing was asked of the device, and something else is told
-  pub tells_none : (old new : Replica D) (e : Refusal) → e ≢ DiskFault → ((part : Part) → e ≢ Corrupt part) → failures new.engine.disk ≡ failures old.engine.disk → IsToldBy honest history failures old new e
-  tells_none old new e other whole same = record { faults = told_of_none (failures old.engine.disk) (failures new.engine.disk) e other same; corrupt = λ is. absurd (whole Pages is); whole = λ n holds part. whole part }
+  pub tells_none : (old new : Replica D) (e : Refusal) → e ≢ DiskFault → ((part : Part) → e ≢ Corrupt part) → g.failures new.engine.disk ≡ g.failures old.engine.disk → IsToldBy g old new e
+  tells_none old new e other whole same = record { faults = told_of_none (g.failures old.engine.disk) (g.failures new.engine.disk) e other same; corrupt = λ is. absurd (whole Pages is); whole = λ n holds part. whole part }
 
-  pub tells_malformed : (r : Replica D) (at : ℕ) → IsToldBy honest history failures r r (Malformed at)
+  pub tells_malformed : (r : Replica D) (at : ℕ) → IsToldBy g r r (Malformed at)
   tells_malformed r at = tells_none r r (Malformed at) (malformed_is_none at) (malformed_is_whole at) refl
 
-  pub tells_stream : (r : Replica D) (e : Refusal) → e ≡ StreamFault → IsToldBy honest history failures r r e
+  pub tells_stream : (r : Replica D) (e : Refusal) → e ≡ StreamFault → IsToldBy g r r e
   tells_stream r e is = tells_none r r e (λ fault. stream_is_none (sym is ∙ fault)) (λ part corrupt. stream_is_whole part (sym is ∙ corrupt)) refl
 
-  pub tells_stopped : (r : Replica D) → IsToldBy honest history failures r r Stopped
+  pub tells_stopped : (r : Replica D) → IsToldBy g r r Stopped
   tells_stopped r = tells_none r r Stopped stopped_is_none stopped_is_whole refl
 
-  pub tells_header : (r : Replica D) (before : Option (List ℕ)) (e : Refusal) → RefusesHeader (facts_of failures r) before e → IsToldBy honest history failures r r e
+  pub tells_header : (r : Replica D) (before : Option (List ℕ)) (e : Refusal) → RefusesHeader (facts_of g r) before e → IsToldBy g r r e
   tells_header r before e (inl stream) = tells_stream r e stream
-  tells_header r before e (inr (inl malformed)) = subst (IsToldBy honest history failures r r) (sym malformed.0) (tells_malformed r 0)
-  tells_header r before e (inr (inr wrong)) = subst (IsToldBy honest history failures r r) (sym wrong.0) (tells_none r r WrongCluster wrong_is_none wrong_is_whole refl)
+  tells_header r before e (inr (inl malformed)) = subst (IsToldBy g r r) (sym malformed.0) (tells_malformed r 0)
+  tells_header r before e (inr (inr wrong)) = subst (IsToldBy g r r) (sym wrong.0) (tells_none r r WrongCluster wrong_is_none wrong_is_whole refl)
 
   -- what is told behind what was done
-  pub told_then : (a b c : Replica D) (e : Refusal) → failures b.engine.disk ≡ failures a.engine.disk → ((n : Node) → Holds honest history failures n a → (m : Node) × Holds honest history failures m b) → IsToldBy honest history failures b c e → IsToldBy honest history failures a c e
+  pub told_then : (a b c : Replica D) (e : Refusal) → g.failures b.engine.disk ≡ g.failures a.engine.disk → ((n : Node) → Holds g n a → (m : Node) × Holds g m b) → IsToldBy g b c e → IsToldBy g a c e
   told_then a b c e same goes told = record {
-    faults = subst (λ (k : ℕ). IsFaultToldBy k (failures c.engine.disk) e) same told.faults;
+    faults = subst (λ (k : ℕ). IsFaultToldBy k (g.failures c.engine.disk) e) same told.faults;
     corrupt = told.corrupt;
     whole = λ n holds part. let on = goes n holds in told.whole on.0 on.1 part;
   }
 
-  pub tells_then : {T : Type 0} (a b c : Replica D) (result : Result T Refusal) → failures b.engine.disk ≡ failures a.engine.disk → ((n : Node) → Holds honest history failures n a → (m : Node) × Holds honest history failures m b) → Tells honest history failures b c result → Tells honest history failures a c result
+  pub tells_then : {T : Type 0} (a b c : Replica D) (result : Result T Refusal) → g.failures b.engine.disk ≡ g.failures a.engine.disk → ((n : Node) → Holds g n a → (m : Node) × Holds g m b) → Tells g b c result → Tells g a c result
   tells_then a b c (Ok x) same goes told = told ∙ same
   tells_then a b c (Err e) same goes told = told_then a b c e same goes told
 
   -- where it grew it stands for a node still
-  pub grown_goes : (a b : Replica D) (records : List Judged) → Grown honest history failures a b records → (n : Node) → Holds honest history failures n a → (m : Node) × Holds honest history failures m b
+  pub grown_goes : (a b : Replica D) (records : List Judged) → Grown g a b records → (n : Node) → Holds g n a → (m : Node) × Holds g m b
   grown_goes a b records grown n holds = let on = grown.node n holds in (on.0, on.2)
 
   -- ---- it settles
 
-  pub settled_tells : (old new : Replica D) (result : Result (Unit {0}) Refusal) → Works honest history failures old new result → Tells honest history failures old new result
-  settled_tells old new (Ok x) w = (settling_serves w.events w.answers (facts_of failures old) (facts_of failures new) w.ends w.moves).failures
+  pub settled_tells : (old new : Replica D) (result : Result (Unit {0}) Refusal) → Works g old new result → Tells g old new result
+  settled_tells old new (Ok x) w = (settling_serves w.events w.answers (facts_of g old) (facts_of g new) w.ends w.moves).failures
   settled_tells old new (Err e) w = record {
-    faults = runs_tell e w.ends.0 w.events (facts_of failures old) (facts_of failures new) w.own w.ends.1 (subst (λ (answers : List Answer). Runs IsDue (facts_of failures old) w.events answers (facts_of failures new)) w.ends.2 w.moves);
+    faults = runs_tell e w.ends.0 w.events (facts_of g old) (facts_of g new) w.own w.ends.1 (subst (λ (answers : List Answer). Runs IsDue (facts_of g old) w.events answers (facts_of g new)) w.ends.2 w.moves);
     corrupt = λ is. w.corrupt (ap Err is);
     whole = λ n holds part is.
         let ran = w.ran n holds in
@@ -190,11 +189,11 @@ module _ {D : Type 0} (honest : D → Type 0) (history : D → History) (failure
 
   -- ---- an item is refused
 
-  pub delivery_told : (old new : Replica D) (seqno : ℕ) (i : Item) (e : Refusal) → (facts_of failures old).stopped ≡ false → (IsNil (facts_of failures old).uuid → ⊥) → seqno ≡ delivered (facts_of failures old) + 1 → seqno ≤ MAX_SEQNO
-      → length (facts_of failures old).ahead < MAX_AHEAD → Moves (facts_of failures old) (delivery seqno i) (Refused e) (facts_of failures new) → IsToldBy honest history failures old new e
+  pub delivery_told : (old new : Replica D) (seqno : ℕ) (i : Item) (e : Refusal) → (facts_of g old).stopped ≡ false → (IsNil (facts_of g old).uuid → ⊥) → seqno ≡ delivered (facts_of g old) + 1 → seqno ≤ MAX_SEQNO
+      → length (facts_of g old).ahead < MAX_AHEAD → Moves (facts_of g old) (delivery seqno i) (Refused e) (facts_of g new) → IsToldBy g old new e
   delivery_told old new seqno i e running not next limit few m =
-      let s = facts_of failures old in
-      let t = facts_of failures new in
+      let s = facts_of g old in
+      let t = facts_of g new in
       let here : Outcome s (delivery seqno i) (Refused e) t =
       subst (λ (o : Option Refusal). MatchOption o (Outcome s (delivery seqno i) (Refused e) t) (λ r. (Refused e ≡ Refused r) × (t ≡ s))) (next_free s seqno i running not next limit few) m in
       record { faults = delivery_tells s t seqno i e here; corrupt = λ is. absurd (delivery_is_whole s t seqno i e Pages here is); whole = λ n holds part. delivery_is_whole s t seqno i e part here }
@@ -207,15 +206,15 @@ module _ {D : Type 0} (honest : D → Type 0) (history : D → History) (failure
   bring_is_whole format s position at before e part (inr (inr (inl fault))) is = fault_is_whole part (sym fault ∙ is)
   bring_is_whole format s position at before e part (inr (inr (inr malformed))) is = malformed_is_whole at part (sym malformed.0 ∙ is)
 
-  pub bring_told : (old new : Replica D) (format : Format) (position at : ℕ) (before : Option (List ℕ)) (result : Result (Unit {0}) Refusal) (e : Refusal) → result ≡ Err e → TellsFaults (failures old.engine.disk) (failures new.engine.disk) result
-      → IfErr result (BringsEarly format (facts_of failures old) position at before) → IsToldBy honest history failures old new e
+  pub bring_told : (old new : Replica D) (format : Format) (position at : ℕ) (before : Option (List ℕ)) (result : Result (Unit {0}) Refusal) (e : Refusal) → result ≡ Err e → TellsFaults (g.failures old.engine.disk) (g.failures new.engine.disk) result
+      → IfErr result (BringsEarly format (facts_of g old) position at before) → IsToldBy g old new e
   bring_told old new format position at before result e is told early =
-      let here : IsFaultToldBy (failures old.engine.disk) (failures new.engine.disk) e = subst (λ (r : Result (Unit {0}) Refusal). TellsFaults (failures old.engine.disk) (failures new.engine.disk) r) is told in
-      let why : BringsEarly format (facts_of failures old) position at before e = subst (λ (r : Result (Unit {0}) Refusal). IfErr r (BringsEarly format (facts_of failures old) position at before)) is early in
-      record { faults = here; corrupt = λ is. absurd (bring_is_whole format (facts_of failures old) position at before e Pages why is); whole = λ n holds part. bring_is_whole format (facts_of failures old) position at before e part why }
+      let here : IsFaultToldBy (g.failures old.engine.disk) (g.failures new.engine.disk) e = subst (λ (r : Result (Unit {0}) Refusal). TellsFaults (g.failures old.engine.disk) (g.failures new.engine.disk) r) is told in
+      let why : BringsEarly format (facts_of g old) position at before e = subst (λ (r : Result (Unit {0}) Refusal). IfErr r (BringsEarly format (facts_of g old) position at before)) is early in
+      record { faults = here; corrupt = λ is. absurd (bring_is_whole format (facts_of g old) position at before e Pages why is); whole = λ n holds part. bring_is_whole format (facts_of g old) position at before e part why }
 
-  pub brought_same : (old new : Replica D) (result : Result (Unit {0}) Refusal) (x : Unit {0}) → result ≡ Ok x → TellsFaults (failures old.engine.disk) (failures new.engine.disk) result → failures new.engine.disk ≡ failures old.engine.disk
-  brought_same old new result x is told = subst (λ (r : Result (Unit {0}) Refusal). TellsFaults (failures old.engine.disk) (failures new.engine.disk) r) is told
+  pub brought_same : (old new : Replica D) (result : Result (Unit {0}) Refusal) (x : Unit {0}) → result ≡ Ok x → TellsFaults (g.failures old.engine.disk) (g.failures new.engine.disk) result → g.failures new.engine.disk ≡ g.failures old.engine.disk
+  brought_same old new result x is told = subst (λ (r : Result (Unit {0}) Refusal). TellsFaults (g.failures old.engine.disk) (g.failures new.engine.disk) r) is told
 
 -- ---- what is told, by the counts of failures alone
 
@@ -233,12 +232,6 @@ told_of_malformed old new at same = told_of_none old new (Malformed at) (malform
 
 pub put_same : (result : Result (Unit {0}) Refusal) (x : Unit {0}) {P : Type 0} → result ≡ Ok x → (IsOk (fault_of result) → P) → P
 put_same result x {P} is same = same (subst (λ (r : Result (Unit {0}) Refusal). IsOk (fault_of r)) (sym is) refl)
-
--- a page that wasn't put is told as the device's fault
-pub put_tells : {D : Type 0} (size failures : D → ℕ) (honest : D → Type 0) (old new : D) (result : Result (Unit {0}) Refusal) (e : Refusal) → result ≡ Err e → e ≡ DiskFault → IsCall size failures honest old new (fault_of result) → IsFaultToldBy (failures old) (failures new) e
-put_tells {D} size failures honest old new result e is fault call =
-    let rose : IsErr (fault_of result) → Rises (failures old) (failures new) = call.cause in
-    record { fault = λ same. rose (subst (λ (r : Result (Unit {0}) Refusal). IsErr (fault_of r)) (sym (is ∙ ap Err fault)) refl); no_fault = λ not. absurd (not fault) }
 
 pub install_told : {S : Type 0} (old new : ℕ) (e : Refusal) → new ≡ old → ((e ≡ Stopped) × S) ⊎ (e ≡ OutOfMemory) → IsFaultToldBy old new e
 install_told old new e same (inl stopped) = told_of_none old new e (λ fault. stopped_is_none (sym stopped.0 ∙ fault)) same

@@ -8,7 +8,7 @@ use Rattle.rep_types.specs.declared.refusal.Refusal.{Refusal}
 use Rattle.rep_types.specs.Settings.{Setting}
 use Rattle.rep_types.specs.Order.{Order, State, items_of, state, history as history_of}
 use Rattle.rep_types.specs.ByItems.{HistoryByItems}
-use Rattle.rep_disk.specs.History.{History}
+use Rattle.rep_disk.specs.declared.disk.Disk.{Ghosts}
 use Rattle.rep_steps.specs.Standings.{Standing}
 use Rattle.rep_steps.specs.Nodes.{Node}
 use Rattle.rep_steps.specs.Orders.{IsOf}
@@ -53,88 +53,88 @@ starts_there n m (Some s) L same goes is = subst (λ (p : Setting). state_of p s
 
 -- ---- the parts
 
-module _ {D : Type 0} (honest : D → Type 0) (history : D → History) (failures : D → ℕ) where
+module _ {D : Type 0} (g : Ghosts D) where
   -- the items are what the run accepted
-  goes_on : (old new : Replica D) (O : Order) (k : ℕ) (records : List Judged) (g : Grown honest history failures old new records) → GoOnIn O k records → (rest : Order) × ((take k O ++ accepted_by g.events g.answers) ++ rest ≡ O)
-  goes_on old new O k records g on = (on.0, ap (λ (L : Order). (take k O ++ L) ++ on.0) g.accepted ∙ on.1)
+  goes_on : (old new : Replica D) (O : Order) (k : ℕ) (records : List Judged) (grown : Grown g old new records) → GoOnIn O k records → (rest : Order) × ((take k O ++ accepted_by grown.events grown.answers) ++ rest ≡ O)
+  goes_on old new O k records grown on = (on.0, ap (λ (L : Order). (take k O ++ L) ++ on.0) grown.accepted ∙ on.1)
 
   -- by records alone
-  pub went_records : (old new : Replica D) (uuid : List ℕ) (records : List Judged) → Grown honest history failures old new records → Went honest history failures old new uuid None records
-  went_records old new uuid records g = record {
-    episodes = Runs g.events g.answers new ∷ [];
-    are = (g.ran, refl);
-    reaches = λ k. ap (λ (L : Order). k + length L) g.accepted ∙ ap (λ n. k + n) (length-map records (λ (j : Judged). j.item));
-    judged = λ n holds L is. (g.node n holds).1.judged L is;
-    fed = λ O k on. (goes_on old new O k records g on, tt);
+  pub went_records : (old new : Replica D) (uuid : List ℕ) (records : List Judged) → Grown g old new records → Went g old new uuid None records
+  went_records old new uuid records grown = record {
+    episodes = Runs grown.events grown.answers new ∷ [];
+    are = (grown.ran, refl);
+    reaches = λ k. ap (λ (L : Order). k + length L) grown.accepted ∙ ap (λ n. k + n) (length-map records (λ (j : Judged). j.item));
+    judged = λ n holds L is. (grown.node n holds).1.judged L is;
+    fed = λ O k on. (goes_on old new O k records grown on, tt);
   }
 
   -- by a snapshot, and records behind it
-  pub went_snapshot : HistoryByItems → (old mid new : Replica D) (format : Format) (uuid : List ℕ) (position start now : ℕ) (before left : Option (List ℕ)) (records : List Judged) (b : Brought honest history failures old mid format uuid position start now before left) → Grown honest history failures mid new records
-      → Went honest history failures old new uuid (Some b.snapshot) records
-  went_snapshot by_items old mid new format uuid position start now before left records b g =
-      let p : Setting = (facts_of failures old).setting in
+  pub went_snapshot : HistoryByItems → (old mid new : Replica D) (format : Format) (uuid : List ℕ) (position start now : ℕ) (before left : Option (List ℕ)) (records : List Judged) (b : Brought g old mid format uuid position start now before left) → Grown g mid new records
+      → Went g old new uuid (Some b.snapshot) records
+  went_snapshot by_items old mid new format uuid position start now before left records b grown =
+      let p : Setting = (facts_of g old).setting in
       record {
-        episodes = Brings uuid (state_of p b.snapshot) mid ∷ (Runs g.events g.answers new ∷ []);
-        are = (b.node, (g.ran, refl));
-        reaches = λ k. ap (λ (L : Order). (state_of p b.snapshot).position + length L) g.accepted ∙ ap (λ n. n + length (items_of records)) (state_position p b.snapshot) ∙ ap (λ n. b.snapshot.position + n) (length-map records (λ (j : Judged). j.item));
+        episodes = Brings uuid (state_of p b.snapshot) mid ∷ (Runs grown.events grown.answers new ∷ []);
+        are = (b.node, (grown.ran, refl));
+        reaches = λ k. ap (λ (L : Order). (state_of p b.snapshot).position + length L) grown.accepted ∙ ap (λ n. n + length (items_of records)) (state_position p b.snapshot) ∙ ap (λ n. b.snapshot.position + n) (length-map records (λ (j : Judged). j.item));
         judged = λ n holds L is.
             let at = b.node n holds in
             let q_is : p ≡ n.facts.setting = ap (λ (x : Standing). x.setting) (sym holds.facts) in
             let of : IsOf L at.node = stands_is n uuid (state_of p b.snapshot) at.node L by_items at.stands (ap (λ (q : Setting). state_of q b.snapshot) q_is ∙ is) in
-            (g.node at.node at.holds).1.judged L of ∙ ap (λ (q : Setting). drop (length L) (history_of q (L ++ items_of records))) at.stands.setting_is;
-        fed = λ O k on. (on.0, (goes_on mid new O (state_of p b.snapshot).position records g (subst (λ n. GoOnIn O n records) (sym (state_position p b.snapshot)) on.1), tt));
+            (grown.node at.node at.holds).1.judged L of ∙ ap (λ (q : Setting). drop (length L) (history_of q (L ++ items_of records))) at.stands.setting_is;
+        fed = λ O k on. (on.0, (goes_on mid new O (state_of p b.snapshot).position records grown (subst (λ n. GoOnIn O n records) (sym (state_position p b.snapshot)) on.1), tt));
       }
 
   -- by some of a snapshot, which was given up
-  pub went_nowhere : HistoryByItems → (old new : Replica D) (uuid : List ℕ) → GivenUp honest history failures old new → Went honest history failures old new uuid None []
-  went_nowhere by_items old new uuid g = record {
+  pub went_nowhere : HistoryByItems → (old new : Replica D) (uuid : List ℕ) → GivenUp g old new → Went g old new uuid None []
+  went_nowhere by_items old new uuid grown = record {
     episodes = GivesUp new ∷ [];
-    are = (g, refl);
+    are = (grown, refl);
     reaches = λ k. omega arith;
     judged = λ n holds L is. sym (none_behind by_items n.facts.setting L);
     fed = λ O k on. tt;
   }
 
   -- by a snapshot while whose coming the device failed
-  pub went_broken : HistoryByItems → (old new : Replica D) (format : Format) (uuid : List ℕ) (position start : ℕ) (before : Option (List ℕ)) (b : Broken honest history failures old new format uuid position start before) → Went honest history failures old new uuid (Some b.snapshot) []
+  pub went_broken : HistoryByItems → (old new : Replica D) (format : Format) (uuid : List ℕ) (position start : ℕ) (before : Option (List ℕ)) (b : Broken g old new format uuid position start before) → Went g old new uuid (Some b.snapshot) []
   went_broken by_items old new format uuid position start before b = record {
-    episodes = Breaks uuid (state_of (facts_of failures old).setting b.snapshot) new ∷ [];
+    episodes = Breaks uuid (state_of (facts_of g old).setting b.snapshot) new ∷ [];
     are = (b.node, refl, refl);
-    reaches = λ k. state_position (facts_of failures old).setting b.snapshot ∙ omega arith;
+    reaches = λ k. state_position (facts_of g old).setting b.snapshot ∙ omega arith;
     judged = λ n holds L is. sym (none_behind by_items n.facts.setting L);
     fed = λ O k on. on.0;
   }
 
   -- behind own steps
-  pub went_behind : (old mid new : Replica D) (uuid : List ℕ) (snapshot : Option Snapshot) (records : List Judged) → Grown honest history failures old mid [] → Went honest history failures mid new uuid snapshot records → Went honest history failures old new uuid snapshot records
-  went_behind old mid new uuid snapshot records g w = record {
-    episodes = Runs g.events g.answers mid ∷ w.episodes;
-    are = (g.ran, w.are);
-    reaches = λ k. ap (λ (L : Order). reached_by (k + length L) w.episodes) g.accepted ∙ ap (λ n. reached_by n w.episodes) (omega arith) ∙ w.reaches k;
+  pub went_behind : (old mid new : Replica D) (uuid : List ℕ) (snapshot : Option Snapshot) (records : List Judged) → Grown g old mid [] → Went g mid new uuid snapshot records → Went g old new uuid snapshot records
+  went_behind old mid new uuid snapshot records grown w = record {
+    episodes = Runs grown.events grown.answers mid ∷ w.episodes;
+    are = (grown.ran, w.are);
+    reaches = λ k. ap (λ (L : Order). reached_by (k + length L) w.episodes) grown.accepted ∙ ap (λ n. reached_by n w.episodes) (omega arith) ∙ w.reaches k;
     judged = λ n holds L is.
-        let one = g.node n holds in
-        let same : one.0.facts.setting ≡ n.facts.setting = ap (λ (x : Standing). x.setting) one.2.facts ∙ g.setting ∙ ap (λ (x : Standing). x.setting) (sym holds.facts) in
+        let one = grown.node n holds in
+        let same : one.0.facts.setting ≡ n.facts.setting = ap (λ (x : Standing). x.setting) one.2.facts ∙ grown.setting ∙ ap (λ (x : Standing). x.setting) (sym holds.facts) in
         w.judged one.0 one.2 L (starts_there n one.0 snapshot L same one.1.order is) ∙ ap (λ (p : Setting). drop (length L) (history_of p (L ++ items_of records))) same;
     fed = λ O k on.
-        let none : accepted_by g.events g.answers ≡ [] = g.accepted in
-        let here : (take k O ++ accepted_by g.events g.answers) ++ drop k O ≡ O = ap (λ (L : Order). (take k O ++ L) ++ drop k O) none ∙ ap (λ (L : Order). L ++ drop k O) (append-nil (take k O)) ∙ take-append-drop k O in
-        let same : k + length (accepted_by g.events g.answers) ≡ k = omega (arith, ap length none) in (
+        let none : accepted_by grown.events grown.answers ≡ [] = grown.accepted in
+        let here : (take k O ++ accepted_by grown.events grown.answers) ++ drop k O ≡ O = ap (λ (L : Order). (take k O ++ L) ++ drop k O) none ∙ ap (λ (L : Order). L ++ drop k O) (append-nil (take k O)) ∙ take-append-drop k O in
+        let same : k + length (accepted_by grown.events grown.answers) ≡ k = omega (arith, ap length none) in (
           (drop k O, here),
-          subst (λ n. FedFrom uuid (facts_of failures old).setting O n w.episodes) (sym same)
-              (subst (λ (p : Setting). FedFrom uuid p O k w.episodes) g.setting (w.fed O k (subst (λ (p : Setting). AreOf uuid p O k snapshot records) (sym g.setting) on))),
+          subst (λ n. FedFrom uuid (facts_of g old).setting O n w.episodes) (sym same)
+              (subst (λ (p : Setting). FedFrom uuid p O k w.episodes) grown.setting (w.fed O k (subst (λ (p : Setting). AreOf uuid p O k snapshot records) (sym grown.setting) on))),
         );
   }
 
   -- nothing was done
-  pub lived_none : HistoryByItems → (r : Replica D) → Lived honest history failures r r
+  pub lived_none : HistoryByItems → (r : Replica D) → Lived g r r
   lived_none by_items r = ([], None, [], record { episodes = []; are = refl; reaches = λ k. omega arith; judged = λ n holds L is. sym (none_behind by_items n.facts.setting L); fed = λ O k on. tt })
 
   -- own steps were taken
-  pub lived_settling : (old new : Replica D) → Grown honest history failures old new [] → Lived honest history failures old new
+  pub lived_settling : (old new : Replica D) → Grown g old new [] → Lived g old new
   lived_settling old new grown = ([], None, [], went_records old new [] [] grown)
 
   -- and a transfer was taken behind them, or some of it
-  pub lived_parts : (old mid new : Replica D) (format : Format) (uuid : List ℕ) (before left : Option (List ℕ)) (start : ℕ) (result : Result ℕ Refusal) → Grown honest history failures old mid [] → IfOk result (λ last. TakesAll honest history failures mid new format uuid last [] before left)
-      → IfErr result (CutShort honest history failures mid new format uuid before start) → Lived honest history failures old new
+  pub lived_parts : (old mid new : Replica D) (format : Format) (uuid : List ℕ) (before left : Option (List ℕ)) (start : ℕ) (result : Result ℕ Refusal) → Grown g old mid [] → IfOk result (λ last. TakesAll g mid new format uuid last [] before left)
+      → IfErr result (CutShort g mid new format uuid before start) → Lived g old new
   lived_parts old mid new format uuid before left start (Ok last) grown all cut = (uuid, all.snapshot, all.records, went_behind old mid new uuid all.snapshot all.records grown all.went)
   lived_parts old mid new format uuid before left start (Err e) grown all cut = (uuid, cut.snapshot, cut.records, went_behind old mid new uuid cut.snapshot cut.records grown cut.went)

@@ -1,23 +1,21 @@
 -- What comes next of a transfer that a donor gave.
-use Rattle.std.proofs.Common.{◌≡◌, ℕ, ◌+◌, ◌-◌, ◌≤◌, List, [], ◌∷◌, ◌++◌, length, take, drop, Option, None, Some, append-nil, arith, refl, sym, ap, subst, ◌∙◌, length-append, min}
+use Rattle.std.proofs.Common.{◌≡◌, ℕ, ◌+◌, ◌-◌, ◌≤◌, List, [], ◌∷◌, ◌++◌, length, take, drop, Option, None, Some, append-nil, arith, refl, sym, ap, subst, ◌∙◌}
 use Rattle.std.proofs.Math.Seq.{take-add, take-length, take-append_seam}
-use Rattle.std.proofs.lemmas.List.{map-append, drop-take, drop-drop, take-take, take-map, take-append-drop, length-take, length-drop}
-use Rattle.rep_types.specs.declared.item.Item.{Item}
+use Rattle.std.proofs.lemmas.List.{map-append, drop-take, drop-drop, take-take, length-take, length-drop}
 use Rattle.rep_types.specs.declared.judged.Judged.{Judged}
-use Rattle.rep_types.specs.declared.verdict.Verdict.{Verdict}
 use Rattle.rep_types.specs.Settings.{Setting}
 use Rattle.rep_types.specs.Windows.{Window}
 use Rattle.rep_types.specs.Order.{Order, items_of, history, verdict, judge, window, state}
 use Rattle.rep_types.specs.ByItems.{HistoryByItems}
 use Rattle.rep_types.specs.Verdicts.{StateIsEnough}
 use Rattle.rep_steps.specs.Standings.{delivered}
-use Rattle.rep_steps.specs.Nodes.{Node, IsNode, verdict_for, window_at}
+use Rattle.rep_steps.specs.Nodes.{Node, IsNode, window_at}
 use Rattle.rep_steps.specs.Images.{JudgedItemsExtendTheOrder}
 use Rattle.rep_steps.specs.Judging.{JudgingGoesOn}
 use Rattle.rep_steps.specs.Orders.{IsOf, NodesHoldTheOrder}
 use Rattle.rep_transfer.specs.declared.have.Have.{Have}
 use Rattle.rep_transfer.specs.Transfers.{Snapshot, Transfer}
-use Rattle.rep_catchup.specs.Donating.{above, durable_items, Brings, IsDonated}
+use Rattle.rep_catchup.specs.Donating.{durable_items, Brings, IsDonated}
 use Rattle.rep_catchup.specs.Joining.{StartsAt, GoesOn}
 use Rattle.rep_catchup.specs.Orders.{IsJoiner, AreNext}
 use Rattle.rep_catchup.proofs.Alike.{history_alike, state_alike, snapshot_alike}

@@ -12,8 +12,10 @@ use Rattle.rep_types.specs.Settings.{IsRow, has_row, is_setting, pages_of}
 use Rattle.rep_types.specs.Windows.{Window as Kept}
 use Rattle.rep_forms.specs.Forms.{number_bytes}
 use Rattle.rep_record.specs.Blocks.{IsBlock, block_bytes}
-use Rattle.rep_disk.specs.History.{History, seen}
+use Rattle.rep_disk.specs.declared.disk.Disk.{Ghosts}
+use Rattle.rep_disk.specs.History.{seen}
 use Rattle.rep_disk.specs.Calls.{Rises}
+use Rattle.rep_disk.specs.Devices.{SameHistory}
 use Rattle.rep_layout.specs.declared.format.Format.TheVariants.{Two}
 use Rattle.rep_layout.specs.declared.page_state.PageState.{PageState}
 use Rattle.rep_layout.specs.declared.page_state.PageState.TheVariants.{Nowhere, In}
@@ -35,7 +37,7 @@ use Rattle.rep_steps.specs.Standings.{Standing}
 use Rattle.rep_steps.specs.Nodes.{Node}
 use Rattle.rep_engine.specs.Engines.{Engine, durable_of}
 use Rattle.rep_engine.specs.Donating.{HasNoRow}
-use Rattle.rep_replica.specs.Replicas.{Replica}
+use Rattle.rep_replica.specs.Replicas.{Replica, OnlyItsEngineAsks}
 use Rattle.rep_replica.specs.Holding.{Holds}
 use Rattle.rep_checkpoint.specs.Coming.{blank}
 use Rattle.rep_streams.specs.Streams.{Notes}
@@ -73,18 +75,18 @@ EndsEarly e = (e ≡ StreamFault) ⊎ ((e ≡ DiskFault) ⊎ ((part : Part) × (
 -- ---- what it leaves at the donor
 
 -- The device was read, and nothing else changed but whether the replica is stopped.
-pub record ReadsAlone {D : Type 0} (honest : D → Type 0) (history : D → History) (old new : Replica D) : Type 0 where
-  pub rest : new ≡ record old { engine = record old.engine { disk = new.engine.disk; halted = new.engine.halted } }
-  pub is_honest : honest old.engine.disk → honest new.engine.disk
-  pub same : honest old.engine.disk → history new.engine.disk ≡ history old.engine.disk
+pub record ReadsAlone {D : Type 0} (g : Ghosts D) (old new : Replica D) : Type 0 where
+  pub rest : OnlyItsEngineAsks old new
+  pub is_honest : g.honest old.engine.disk → g.honest new.engine.disk
+  pub same : SameHistory g old.engine.disk new.engine.disk
 
 -- It isn't stopped, from outside or by its device.
 abbrev pub IsRunning : {D : Type 0} → Replica D → Type 0
 IsRunning r = (r.stopped || is_some r.engine.halted) ≡ false
 
 -- A device as it reads, by its places.
-abbrev pub as_seen : {D : Type 0} → (D → History) → Engine D → Reading
-as_seen history e = reading_of e.layout (seen (history e.disk))
+abbrev pub as_seen : {D : Type 0} → Ghosts D → Engine D → Reading
+as_seen g e = reading_of e.layout (seen (g.history e.disk))
 
 -- What the bytes of a reading do not spell: the window beside the superblock; a page that the superblock has in a slot; or the block of a
 -- number in the log.
@@ -98,16 +100,16 @@ IsBadPart r l b log InPages = (number : ℕ) × IsBadPage r b number
 -- to, unless the device failed, and shows nothing that is not of its form; a device's failure is told exactly where there was one,
 -- and stops the replica, which is stopped by nothing else; on an honest device a part is told corrupt only where its bytes are bad; and
 -- the writer's failure is told exactly where it failed.
-pub record Leaves {D T : Type 0} (honest : D → Type 0) (history : D → History) (failures : D → ℕ) (old new : Replica D) (before after : Bool) (result : Result T Refusal) : Type 0 where
-  pub reads : ReadsAlone honest history old new
+pub record Leaves {D T : Type 0} (g : Ghosts D) (old new : Replica D) (before after : Bool) (result : Result T Refusal) : Type 0 where
+  pub reads : ReadsAlone g old new
   pub runs : OnOk result (IsRunning new)
-  pub holds : (n : Node) → Holds honest history failures n old → result ≢ Err DiskFault → Holds honest history failures n new
+  pub holds : (n : Node) → Holds g n old → result ≢ Err DiskFault → Holds g n new
   pub refused : IfErr result EndsEarly
-  pub whole : (n : Node) → Holds honest history failures n old → (part : Part) → result ≢ Err (Corrupt part)
-  pub fault : result ≡ Err DiskFault → Rises (failures old.engine.disk) (failures new.engine.disk) × (is_some new.engine.halted ≡ true)
-  pub no_fault : result ≢ Err DiskFault → failures new.engine.disk ≡ failures old.engine.disk
+  pub whole : (n : Node) → Holds g n old → (part : Part) → result ≢ Err (Corrupt part)
+  pub fault : result ≡ Err DiskFault → Rises (g.failures old.engine.disk) (g.failures new.engine.disk) × (is_some new.engine.halted ≡ true)
+  pub no_fault : result ≢ Err DiskFault → g.failures new.engine.disk ≡ g.failures old.engine.disk
   pub halts : result ≢ Err DiskFault → new.engine.halted ≡ old.engine.halted
-  pub bad : honest old.engine.disk → (part : Part) → result ≡ Err (Corrupt part) → IsBadPart (as_seen history old.engine) old.engine.layout old.engine.checkpoint.base old.engine.log part
+  pub bad : g.honest old.engine.disk → (part : Part) → result ≡ Err (Corrupt part) → IsBadPart (as_seen g old.engine) old.engine.layout old.engine.checkpoint.base old.engine.log part
   pub notes : Notes before after result
 
 -- ---- what it gives
@@ -308,44 +310,44 @@ IsPageOfNode b content number None = HasNoRow b content number
 IsPageOfNode b content number (Some p) = IsHeldPage b content number p
 
 -- What is known of the window that was written: on an honest device it is as its bytes spell it, and of a node it is that of its base.
-pub record KnowsWindow {D : Type 0} (honest : D → Type 0) (history : D → History) (failures : D → ℕ) (r : Replica D) (v : Kept) : Type 0 where
-  pub there : honest r.engine.disk → IsWindowThere (as_seen history r.engine) r.engine.checkpoint.base v
-  pub of_node : (n : Node) → Holds honest history failures n r → v ≡ n.base.kept
+pub record KnowsWindow {D : Type 0} (g : Ghosts D) (r : Replica D) (v : Kept) : Type 0 where
+  pub there : g.honest r.engine.disk → IsWindowThere (as_seen g r.engine) r.engine.checkpoint.base v
+  pub of_node : (n : Node) → Holds g n r → v ≡ n.base.kept
 
 -- So it is with the page of a number,
-pub record KnowsPage {D : Type 0} (honest : D → Type 0) (history : D → History) (failures : D → ℕ) (r : Replica D) (number : ℕ) (p : Option NumberedPage) : Type 0 where
-  pub there : honest r.engine.disk → IfSome p (IsPageThere (as_seen history r.engine) r.engine.checkpoint.base)
-  pub of_node : (n : Node) → Holds honest history failures n r → IsPageOfNode r.engine.checkpoint.base n.base.content number p
+pub record KnowsPage {D : Type 0} (g : Ghosts D) (r : Replica D) (number : ℕ) (p : Option NumberedPage) : Type 0 where
+  pub there : g.honest r.engine.disk → IfSome p (IsPageThere (as_seen g r.engine) r.engine.checkpoint.base)
+  pub of_node : (n : Node) → Holds g n r → IsPageOfNode r.engine.checkpoint.base n.base.content number p
 
 -- with the pages below a number,
-pub record KnowsPages {D : Type 0} (honest : D → Type 0) (history : D → History) (failures : D → ℕ) (r : Replica D) (number : ℕ) (pages : List NumberedPage) : Type 0 where
-  pub there : honest r.engine.disk → AllByRecursion (IsPageThere (as_seen history r.engine) r.engine.checkpoint.base) pages
-  pub of_node : (n : Node) → Holds honest history failures n r → ArePages r.engine.checkpoint.base n.base.content number pages
+pub record KnowsPages {D : Type 0} (g : Ghosts D) (r : Replica D) (number : ℕ) (pages : List NumberedPage) : Type 0 where
+  pub there : g.honest r.engine.disk → AllByRecursion (IsPageThere (as_seen g r.engine) r.engine.checkpoint.base) pages
+  pub of_node : (n : Node) → Holds g n r → ArePages r.engine.checkpoint.base n.base.content number pages
 
 -- with a snapshot,
-pub record KnowsSnapshot {D : Type 0} (honest : D → Type 0) (history : D → History) (failures : D → ℕ) (r : Replica D) (s : Snapshot) : Type 0 where
-  pub there : honest r.engine.disk → IsSnapshotThere (as_seen history r.engine) r.engine.checkpoint.base s
-  pub of_node : (n : Node) → Holds honest history failures n r → IsSnapshotOf n s
+pub record KnowsSnapshot {D : Type 0} (g : Ghosts D) (r : Replica D) (s : Snapshot) : Type 0 where
+  pub there : g.honest r.engine.disk → IsSnapshotThere (as_seen g r.engine) r.engine.checkpoint.base s
+  pub of_node : (n : Node) → Holds g n r → IsSnapshotOf n s
 
 -- with what comes before the records, and the position behind which they come,
-pub record KnowsBase {D : Type 0} (honest : D → Type 0) (history : D → History) (failures : D → ℕ) (r : Replica D) (have : Have) (position : ℕ) (s : Option Snapshot) : Type 0 where
+pub record KnowsBase {D : Type 0} (g : Ghosts D) (r : Replica D) (have : Have) (position : ℕ) (s : Option Snapshot) : Type 0 where
   pub is_behind : position ≡ behind have s
-  pub snapshot : IfSome s (KnowsSnapshot honest history failures r)
+  pub snapshot : IfSome s (KnowsSnapshot g r)
 
 -- and with the blocks of the log.
-pub record KnowsBlocks {D : Type 0} (honest : D → Type 0) (history : D → History) (failures : D → ℕ) (r : Replica D) (blocks : List (List Judged)) : Type 0 where
-  pub there : honest r.engine.disk → AreBlocksThere (as_seen history r.engine) r.engine.layout r.engine.log.start blocks
-  pub of_node : (n : Node) → Holds honest history failures n r → records_of blocks ≡ durable_items n
+pub record KnowsBlocks {D : Type 0} (g : Ghosts D) (r : Replica D) (blocks : List (List Judged)) : Type 0 where
+  pub there : g.honest r.engine.disk → AreBlocksThere (as_seen g r.engine) r.engine.layout r.engine.log.start blocks
+  pub of_node : (n : Node) → Holds g n r → records_of blocks ≡ durable_items n
 
 -- A transfer with all parts was written, which ends at this position. On an honest device its parts are as the bytes spell them; and of a
 -- node it is what the joiner needs.
-pub record Donates {D : Type 0} (honest : D → Type 0) (history : D → History) (failures : D → ℕ) (r : Replica D) (have : Have) (old new : Option (List ℕ)) (last : ℕ) : Type 0 where
+pub record Donates {D : Type 0} (g : Ghosts D) (r : Replica D) (have : Have) (old new : Option (List ℕ)) (last : ℕ) : Type 0 where
   pub transfer : Transfer
   pub parts : HasAllParts r.engine.checkpoint.base r.engine.log have transfer
   pub is_last : transfer.last ≡ last
   pub written : Appends old new (transfer_bytes transfer)
-  pub there : honest r.engine.disk → IsThere (as_seen history r.engine) r.engine.layout r.engine.checkpoint.base r.engine.log have transfer
-  pub of_node : (n : Node) → Holds honest history failures n r → IsDonated n have transfer
+  pub there : g.honest r.engine.disk → IsThere (as_seen g r.engine) r.engine.layout r.engine.checkpoint.base r.engine.log have transfer
+  pub of_node : (n : Node) → Holds g n r → IsDonated n have transfer
 
 -- A transfer with all parts was written.
 abbrev pub WroteTransfer : SuperBody → Log → Have → Option (List ℕ) → Option (List ℕ) → ℕ → Type 0

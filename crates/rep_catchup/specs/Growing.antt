@@ -1,12 +1,12 @@
 -- How a replica grows, by its own steps and by the items that are delivered to it.
-use Rattle.std.specs.Prelude.{◌≡◌, ◌≢◌, ◌⊎◌, ℕ, ◌+◌, ◌≤◌, ◌||◌, true, List, [], ◌++◌, length, drop, is_some, Result, Ok, Err}
+use Rattle.std.specs.Prelude.{◌≡◌, ◌≢◌, ◌⊎◌, ◌+◌, ◌≤◌, ◌||◌, true, List, [], ◌++◌, length, drop, is_some, Result, Ok, Err}
 use Rattle.rep_types.specs.declared.judged.Judged.{Judged}
 use Rattle.rep_types.specs.declared.refusal.Refusal.{Refusal}
 use Rattle.rep_types.specs.declared.refusal.Refusal.TheVariants.{DiskFault, Corrupt}
 use Rattle.rep_types.specs.declared.refusal.Part.{Part}
 use Rattle.rep_types.specs.declared.refusal.Part.TheVariants.{Pages}
 use Rattle.rep_types.specs.Order.{Order, items_of, history as history_of}
-use Rattle.rep_disk.specs.History.{History}
+use Rattle.rep_disk.specs.declared.disk.Disk.{Ghosts}
 use Rattle.rep_steps.specs.declared.event.Event.{Event}
 use Rattle.rep_steps.specs.declared.answer.Answer.{Answer}
 use Rattle.rep_steps.specs.Standings.{delivered}
@@ -29,16 +29,16 @@ pub record Grows (n : Node) (records : List Judged) (m : Node) : Type 0 where
 
 -- The replica grew by these items, by a run: it is of the cluster and has the parameters that it had, on any device; and for each node
 -- that it stood for it stands for one that grew by them.
-pub record Grown {D : Type 0} (honest : D → Type 0) (history : D → History) (failures : D → ℕ) (old new : Replica D) (records : List Judged) : Type 0 where
-  pub uuid : (facts_of failures new).uuid ≡ (facts_of failures old).uuid
-  pub setting : (facts_of failures new).setting ≡ (facts_of failures old).setting
-  pub count : delivered (facts_of failures old) + length records ≤ delivered (facts_of failures new)
+pub record Grown {D : Type 0} (g : Ghosts D) (old new : Replica D) (records : List Judged) : Type 0 where
+  pub uuid : (facts_of g new).uuid ≡ (facts_of g old).uuid
+  pub setting : (facts_of g new).setting ≡ (facts_of g old).setting
+  pub count : delivered (facts_of g old) + length records ≤ delivered (facts_of g new)
   pub events : List Event
   pub answers : List Answer
   pub paired : length events ≡ length answers
-  pub ran : Ran honest history failures old new events answers
+  pub ran : Ran g old new events answers
   pub accepted : accepted_by events answers ≡ items_of records
-  pub node : (n : Node) → Holds honest history failures n old → (m : Node) × Grows n records m × Holds honest history failures m new
+  pub node : (n : Node) → Holds g n old → (m : Node) × Grows n records m × Holds g m new
 
 -- these, where it succeeded
 abbrev pub where_ok : {T X : Type 0} → Result T Refusal → List X → List X
@@ -52,12 +52,12 @@ EndsRunning (Err e) r = ((e ≡ DiskFault) × ((r.stopped || is_some r.engine.ha
 
 -- What a refusal tells of the device: its fault, exactly where there was one; that a page is not of its form only where an honest
 -- device's bytes have none; and that of no device of a node.
-pub record IsToldBy {D : Type 0} (honest : D → Type 0) (history : D → History) (failures : D → ℕ) (old new : Replica D) (e : Refusal) : Type 0 where
-  pub faults : IsFaultToldBy (failures old.engine.disk) (failures new.engine.disk) e
-  pub corrupt : e ≡ Corrupt Pages → MeetsBadPage honest history new
-  pub whole : (n : Node) → Holds honest history failures n old → (part : Part) → e ≢ Corrupt part
+pub record IsToldBy {D : Type 0} (g : Ghosts D) (old new : Replica D) (e : Refusal) : Type 0 where
+  pub faults : IsFaultToldBy (g.failures old.engine.disk) (g.failures new.engine.disk) e
+  pub corrupt : e ≡ Corrupt Pages → MeetsBadPage g new
+  pub whole : (n : Node) → Holds g n old → (part : Part) → e ≢ Corrupt part
 
 -- so it is of a call, whatever came of it
-abbrev pub Tells : {D T : Type 0} → (D → Type 0) → (D → History) → (D → ℕ) → Replica D → Replica D → Result T Refusal → Type 0
-Tells honest history failures old new (Ok x) = failures new.engine.disk ≡ failures old.engine.disk
-Tells honest history failures old new (Err e) = IsToldBy honest history failures old new e
+abbrev pub Tells : {D T : Type 0} → Ghosts D → Replica D → Replica D → Result T Refusal → Type 0
+Tells g old new (Ok x) = g.failures new.engine.disk ≡ g.failures old.engine.disk
+Tells g old new (Err e) = IsToldBy g old new e

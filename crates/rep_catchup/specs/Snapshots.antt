@@ -14,7 +14,7 @@ use Rattle.rep_types.specs.Windows.{Window, is_window_size}
 use Rattle.rep_types.specs.declared.reach.Reach.{Reach}
 use Rattle.rep_forms.specs.Forms.{number_bytes}
 use Rattle.rep_forms.specs.Entries.{EntryFits, entry_bytes}
-use Rattle.rep_disk.specs.History.{History}
+use Rattle.rep_disk.specs.declared.disk.Disk.{Ghosts}
 use Rattle.rep_disk.specs.Moments.{LeavesOnly}
 use Rattle.rep_layout.specs.declared.format.Format.{Format}
 use Rattle.rep_layout.specs.Supers.{IsNil}
@@ -124,7 +124,7 @@ pub record TakesWindow (format : Format) (s : Standing) (position : ℕ) (v : Wi
   pub took : Took start now before left (kept_bytes format v ++ number_bytes 2 count)
 
 -- These pages were taken one after another, and put beside the base: each is one of the schema, and their numbers ascend strictly.
-pub record TakesPages {D : Type 0} (honest : D → Type 0) (history : D → History) (failures : D → ℕ) (old new : Bringing D) (pages : List NumberedPage) (start now : ℕ) (before left : Option (List ℕ)) : Type 0 where
+pub record TakesPages {D : Type 0} (g : Ghosts D) (old new : Bringing D) (pages : List NumberedPage) (start now : ℕ) (before left : Option (List ℕ)) : Type 0 where
   pub fit : AllByRecursion PageFits pages
   pub ascend : IsStrictlyIncreasing (map number_of pages)
   pub of_schema : AllByRecursion (IsPageOf old.engine.checkpoint.base.params.rows) pages
@@ -133,16 +133,16 @@ pub record TakesPages {D : Type 0} (honest : D → Type 0) (history : D → Hist
   pub uuid : new.coming.next.super.uuid ≡ old.coming.next.super.uuid
   pub params : new.coming.next.super.params ≡ old.coming.next.super.params
   pub base : new.engine.checkpoint.base ≡ old.engine.checkpoint.base
-  pub holds : (n : Node) (y : State) → HoldsBoth honest history failures n y old → HoldsBoth honest history failures n (with_pages old.engine.checkpoint.base.params.rows pages y) new
-  pub leaves : (n : Node) (y : State) → HoldsBoth honest history failures n y old → LeavesOnly (history old.engine.disk) (history new.engine.disk) (IsFrontAt Means n)
+  pub holds : (n : Node) (y : State) → HoldsBoth g n y old → HoldsBoth g n (with_pages old.engine.checkpoint.base.params.rows pages y) new
+  pub leaves : (n : Node) (y : State) → HoldsBoth g n y old → LeavesOnly (g.history old.engine.disk) (g.history new.engine.disk) (IsFrontAt Means n)
 
 -- Some were, and then no more: the replica still stands for the node, if its device has not failed; and each image means a front of that.
-pub record LeavesPages {D : Type 0} (honest : D → Type 0) (history : D → History) (failures : D → ℕ) (n : Node) (old new : Bringing D) : Type 0 where
+pub record LeavesPages {D : Type 0} (g : Ghosts D) (n : Node) (old new : Bringing D) : Type 0 where
   pub node : Node
   pub still : IsStill n node
   pub state : State
-  pub holds : HoldsBoth honest history failures node state new
-  pub leaves : LeavesOnly (history old.engine.disk) (history new.engine.disk) (IsFrontAt Means n)
+  pub holds : HoldsBoth g node state new
+  pub leaves : LeavesOnly (g.history old.engine.disk) (g.history new.engine.disk) (IsFrontAt Means n)
 
 -- What came behind the position of a snapshot is the rest of this one, which can come to the replica: its format can tell it, it is a
 -- snapshot for its parameters, above what was delivered, or the replica is of no cluster.
@@ -155,24 +155,24 @@ pub record TakesSnapshot (format : Format) (s : Standing) (position : ℕ) (snap
   pub took : Took start now before left (rest_of format snapshot)
 
 -- It took the base's place: on any device the replica is of its cluster, and has the parameters that it had.
-pub record Brought {D : Type 0} (honest : D → Type 0) (history : D → History) (failures : D → ℕ) (old new : Replica D) (format : Format) (uuid : List ℕ) (position : ℕ) (start now : ℕ) (before left : Option (List ℕ)) : Type 0 where
+pub record Brought {D : Type 0} (g : Ghosts D) (old new : Replica D) (format : Format) (uuid : List ℕ) (position : ℕ) (start now : ℕ) (before left : Option (List ℕ)) : Type 0 where
   pub snapshot : Snapshot
-  pub takes : TakesSnapshot format (facts_of failures old) position snapshot start now before left
-  pub uuid_is : (facts_of failures new).uuid ≡ uuid
-  pub setting : (facts_of failures new).setting ≡ (facts_of failures old).setting
-  pub node : (n : Node) → Holds honest history failures n old → BroughtAt honest history failures n uuid (state_of (facts_of failures old).setting snapshot) old new
+  pub takes : TakesSnapshot format (facts_of g old) position snapshot start now before left
+  pub uuid_is : (facts_of g new).uuid ≡ uuid
+  pub setting : (facts_of g new).setting ≡ (facts_of g old).setting
+  pub node : (n : Node) → Holds g n old → BroughtAt g n uuid (state_of (facts_of g old).setting snapshot) old new
 
 -- The device failed while it did.
-pub record Broken {D : Type 0} (honest : D → Type 0) (history : D → History) (failures : D → ℕ) (old new : Replica D) (format : Format) (uuid : List ℕ) (position : ℕ) (start : ℕ) (before : Option (List ℕ)) : Type 0 where
+pub record Broken {D : Type 0} (g : Ghosts D) (old new : Replica D) (format : Format) (uuid : List ℕ) (position : ℕ) (start : ℕ) (before : Option (List ℕ)) : Type 0 where
   pub snapshot : Snapshot
   pub now : ℕ
   pub left : Option (List ℕ)
-  pub takes : TakesSnapshot format (facts_of failures old) position snapshot start now before left
-  pub node : (n : Node) → Holds honest history failures n old → BrokeAt history n uuid (state_of (facts_of failures old).setting snapshot) old new
+  pub takes : TakesSnapshot format (facts_of g old) position snapshot start now before left
+  pub node : (n : Node) → Holds g n old → BrokeAt g n uuid (state_of (facts_of g old).setting snapshot) old new
 
 -- Some of it came, and it was given up.
-abbrev pub GivenUp : {D : Type 0} → (D → Type 0) → (D → History) → (D → ℕ) → Replica D → Replica D → Type 0
-GivenUp honest history failures old new = (n : Node) → Holds honest history failures n old → GaveUpAt honest history failures n old new
+abbrev pub GivenUp : {D : Type 0} → Ghosts D → Replica D → Replica D → Type 0
+GivenUp g old new = (n : Node) → Holds g n old → GaveUpAt g n old new
 
 -- Behind so many pages, the rest of them, goes on none that can come: no pages of the schema of strictly ascending numbers.
 abbrev pub NoPagesCome : List ℕ → ℕ → List ℕ → Type 0
@@ -190,5 +190,5 @@ abbrev pub BringsEarly : Format → Standing → ℕ → ℕ → Option (List �
 BringsEarly format s position at before e = (e ≡ StreamFault) ⊎ ((e ≡ OutOfMemory) ⊎ ((e ≡ DiskFault) ⊎ ((e ≡ Malformed at) × IfSome before (NoneComes format s position))))
 
 -- What is left of one that wasn't: it was given up, or the device failed while it took the base's place.
-abbrev pub LeavesSnapshot : {D : Type 0} → (D → Type 0) → (D → History) → (D → ℕ) → Replica D → Replica D → Format → List ℕ → ℕ → ℕ → Option (List ℕ) → Refusal → Type 0
-LeavesSnapshot honest history failures old new format uuid position start before e = GivenUp honest history failures old new ⊎ ((e ≡ DiskFault) × Broken honest history failures old new format uuid position start before)
+abbrev pub LeavesSnapshot : {D : Type 0} → Ghosts D → Replica D → Replica D → Format → List ℕ → ℕ → ℕ → Option (List ℕ) → Refusal → Type 0
+LeavesSnapshot g old new format uuid position start before e = GivenUp g old new ⊎ ((e ≡ DiskFault) × Broken g old new format uuid position start before)

@@ -36,7 +36,7 @@ use rep_types::{Judged, Refusal};
 
 /// Whether the joiner is of the donor's cluster, or of none yet, and has its shape.
 fn is_of_cluster<D: Disk>(replica: &Replica<D>, have: &Have) -> bool
-    ensures { (result ≡ true) ↔ IsOfCluster (facts_of D.failures replica.now) have.now }
+    ensures { (result ≡ true) ↔ IsOfCluster (facts_of D.Disk replica.now) have.now }
 {
     have.shape.is_of(replica.params()) && (have.uuid.is_nil() || have.uuid == replica.uuid())
 }
@@ -44,9 +44,9 @@ fn is_of_cluster<D: Disk>(replica: &Replica<D>, have: &Have) -> bool
 /// Why nothing is donated to this joiner, the first reason that applies: the donor is stopped; it belongs to no cluster; the joiner is of
 /// another cluster, window or schema; or it has more of the order than is durable at the donor.
 pub fn donation_refusal<D: Disk>(replica: &Replica<D>, have: &Have) -> Option<Refusal>
-    ensures first { IsFirstRefusal (facts_of D.failures replica.now) have.now result }
+    ensures first { IsFirstRefusal (facts_of D.Disk replica.now) have.now result }
     ensures kinds { IfSome result ComesFirst }
-    ensures only { (o : Option Refusal) → IsFirstRefusal (facts_of D.failures replica.now) have.now o → o ≡ result }
+    ensures only { (o : Option Refusal) → IsFirstRefusal (facts_of D.Disk replica.now) have.now o → o ≡ result }
 {
     if replica.is_stopped() {
         return Some(Refusal::Stopped);
@@ -111,8 +111,8 @@ fn write_entries<W: Sink>(window: WindowReader<'_>, writer: &mut W) -> Result<()
 /// Writes the position of the base, and its window: size and floor, how many entries it has, and these.
 fn write_window<D: Disk, W: Sink>(replica: &mut Replica<D>, writer: &mut W) -> Result<(), Refusal>
     requires { IsRunning replica.old }
-    ensures leaves { Leaves D.honest D.history D.failures replica.old replica.new (W.failed writer.old) (W.failed writer.new) result }
-    ensures writes { Writes (window_part replica.old.engine.checkpoint.base) (StandsBeside replica.old.engine.checkpoint.base) (λ done. KnowsWindow D.honest D.history D.failures replica.old) (W.contents writer.old) (W.contents writer.new) result }
+    ensures leaves { Leaves D.Disk replica.old replica.new (W.failed writer.old) (W.failed writer.new) result }
+    ensures writes { Writes (window_part replica.old.engine.checkpoint.base) (StandsBeside replica.old.engine.checkpoint.base) (λ done. KnowsWindow D.Disk replica.old) (W.contents writer.old) (W.contents writer.new) result }
 {
     let mut room = [0; WINDOW_BODY];
     let position = replica.base();
@@ -131,8 +131,8 @@ fn write_base_page<D: Disk, W: Sink>(
     writer: &mut W,
 ) -> Result<(), Refusal>
     requires { IsRunning replica.old }
-    ensures leaves { Leaves D.honest D.history D.failures replica.old replica.new (W.failed writer.old) (W.failed writer.new) result }
-    ensures writes { Writes page_part (IsPageFor replica.old.engine.checkpoint.base number) (λ done. KnowsPage D.honest D.history D.failures replica.old number) (W.contents writer.old) (W.contents writer.new) result }
+    ensures leaves { Leaves D.Disk replica.old replica.new (W.failed writer.old) (W.failed writer.new) result }
+    ensures writes { Writes page_part (IsPageFor replica.old.engine.checkpoint.base number) (λ done. KnowsPage D.Disk replica.old number) (W.contents writer.old) (W.contents writer.new) result }
 {
     match replica.base_page(u32::from(number))? {
         Some(found) => {
@@ -149,8 +149,8 @@ fn write_base_page<D: Disk, W: Sink>(
 /// Writes the pages that the base has in a slot.
 fn write_pages<D: Disk, W: Sink>(replica: &mut Replica<D>, writer: &mut W) -> Result<(), Refusal>
     requires { IsRunning replica.old }
-    ensures leaves { Leaves D.honest D.history D.failures replica.old replica.new (W.failed writer.old) (W.failed writer.new) result }
-    ensures writes { Writes (flat_map page_bytes) (ArePagesBelow replica.old.engine.checkpoint.base (pages_of replica.old.engine.checkpoint.base.params.rows)) (λ done. KnowsPages D.honest D.history D.failures replica.old (pages_of replica.old.engine.checkpoint.base.params.rows)) (W.contents writer.old) (W.contents writer.new) result }
+    ensures leaves { Leaves D.Disk replica.old replica.new (W.failed writer.old) (W.failed writer.new) result }
+    ensures writes { Writes (flat_map page_bytes) (ArePagesBelow replica.old.engine.checkpoint.base (pages_of replica.old.engine.checkpoint.base.params.rows)) (λ done. KnowsPages D.Disk replica.old (pages_of replica.old.engine.checkpoint.base.params.rows)) (W.contents writer.old) (W.contents writer.new) result }
 {
     for number in 0..page_count(replica) {
         write_base_page(replica, number, writer)?;
@@ -161,8 +161,8 @@ fn write_pages<D: Disk, W: Sink>(replica: &mut Replica<D>, writer: &mut W) -> Re
 /// Writes a snapshot of the base.
 fn write_snapshot<D: Disk, W: Sink>(replica: &mut Replica<D>, writer: &mut W) -> Result<(), Refusal>
     requires { IsRunning replica.old }
-    ensures leaves { Leaves D.honest D.history D.failures replica.old replica.new (W.failed writer.old) (W.failed writer.new) result }
-    ensures writes { Writes (snapshot_bytes Two) (IsSnapshotFor replica.old.engine.checkpoint.base) (λ done. KnowsSnapshot D.honest D.history D.failures replica.old) (W.contents writer.old) (W.contents writer.new) result }
+    ensures leaves { Leaves D.Disk replica.old replica.new (W.failed writer.old) (W.failed writer.new) result }
+    ensures writes { Writes (snapshot_bytes Two) (IsSnapshotFor replica.old.engine.checkpoint.base) (λ done. KnowsSnapshot D.Disk replica.old) (W.contents writer.old) (W.contents writer.new) result }
 {
     row_places_are_told();
     write_window(replica, writer)?;
@@ -178,9 +178,9 @@ fn write_base<D: Disk, W: Sink>(
     writer: &mut W,
 ) -> Result<u64, Refusal>
     requires { IsRunning replica.old }
-    ensures leaves { Leaves D.honest D.history D.failures replica.old replica.new (W.failed writer.old) (W.failed writer.new) result }
+    ensures leaves { Leaves D.Disk replica.old replica.new (W.failed writer.old) (W.failed writer.new) result }
     ensures asked { (part : Part) → result ≡ Err (Refusal.Corrupt part) → NeedsSnapshot replica.old.engine.checkpoint.base.position have.now }
-    ensures writes { Writes (snapshot_part Two) (IsBaseFor replica.old.engine.checkpoint.base have.now) (KnowsBase D.honest D.history D.failures replica.old have.now) (W.contents writer.old) (W.contents writer.new) result }
+    ensures writes { Writes (snapshot_part Two) (IsBaseFor replica.old.engine.checkpoint.base have.now) (KnowsBase D.Disk replica.old have.now) (W.contents writer.old) (W.contents writer.new) result }
 {
     if !needs_snapshot(replica, have) {
         return Ok(have.position);
@@ -226,9 +226,9 @@ fn write_tail<D: Disk, W: Sink>(
     writer: &mut W,
 ) -> Result<(), Refusal>
     requires { IsRunning replica.old }
-    ensures leaves { Leaves D.honest D.history D.failures replica.old replica.new (W.failed writer.old) (W.failed writer.new) result }
+    ensures leaves { Leaves D.Disk replica.old replica.new (W.failed writer.old) (W.failed writer.new) result }
     ensures asked { (part : Part) → result ≡ Err (Refusal.Corrupt part) → part ≡ in_log }
-    ensures writes { Writes (tail_part position) (AreAllBlocks replica.old.engine.log) (λ done. KnowsBlocks D.honest D.history D.failures replica.old) (W.contents writer.old) (W.contents writer.new) result }
+    ensures writes { Writes (tail_part position) (AreAllBlocks replica.old.engine.log) (λ done. KnowsBlocks D.Disk replica.old) (W.contents writer.old) (W.contents writer.new) result }
 {
     the_tail_is_told();
     let mut room = [0; LOG_BODY];
@@ -258,9 +258,9 @@ fn write_transfer<D: Disk, W: Sink>(
 ) -> Result<u64, Refusal>
     requires running { IsRunning replica.old }
     requires defined { IsNil replica.old.engine.checkpoint.base.uuid → ⊥ }
-    ensures leaves { Leaves D.honest D.history D.failures replica.old replica.new (W.failed writer.old) (W.failed writer.new) result }
+    ensures leaves { Leaves D.Disk replica.old replica.new (W.failed writer.old) (W.failed writer.new) result }
     ensures asked { (part : Part) → result ≡ Err (Refusal.Corrupt part) → IsAskedFor replica.old.engine.checkpoint.base have.now part }
-    ensures donates { IfOk result (Donates D.honest D.history D.failures replica.old have.now (W.contents writer.old) (W.contents writer.new)) }
+    ensures donates { IfOk result (Donates D.Disk replica.old have.now (W.contents writer.old) (W.contents writer.new)) }
     ensures cut { OnErr result (WroteLess replica.old.engine.checkpoint.base replica.old.engine.log have.now (W.contents writer.old) (W.contents writer.new)) }
 {
     let header = Header {
@@ -292,24 +292,24 @@ pub fn donate<D: Disk, W: Sink>(
     have: &Have,
     writer: &mut W,
 ) -> Result<u64, Refusal>
-    ensures refusal { (o : Option Refusal) → IsFirstRefusal (facts_of D.failures replica.old) have.now o → IfSome o (λ e. (result ≡ Err e) × (replica.new ≡ replica.old) × Keeps (W.contents writer.old) (W.contents writer.new)) }
-    ensures early { IsFirstRefusal (facts_of D.failures replica.old) have.now None → IfErr result EndsEarly }
-    ensures reads { ReadsAlone D.honest D.history replica.old replica.new }
-    ensures holds { (n : Node) → Holds D.honest D.history D.failures n replica.old → result ≢ Err Refusal.DiskFault → Holds D.honest D.history D.failures n replica.new }
+    ensures refusal { (o : Option Refusal) → IsFirstRefusal (facts_of D.Disk replica.old) have.now o → IfSome o (λ e. (result ≡ Err e) × (replica.new ≡ replica.old) × Keeps (W.contents writer.old) (W.contents writer.new)) }
+    ensures early { IsFirstRefusal (facts_of D.Disk replica.old) have.now None → IfErr result EndsEarly }
+    ensures reads { ReadsAlone D.Disk replica.old replica.new }
+    ensures holds { (n : Node) → Holds D.Disk n replica.old → result ≢ Err Refusal.DiskFault → Holds D.Disk n replica.new }
     // An honest device of a node shows nothing that is not of its form.
-    ensures whole { (n : Node) → Holds D.honest D.history D.failures n replica.old → (part : Part) → result ≢ Err (Refusal.Corrupt part) }
+    ensures whole { (n : Node) → Holds D.Disk n replica.old → (part : Part) → result ≢ Err (Refusal.Corrupt part) }
     ensures fault { result ≡ Err Refusal.DiskFault → Rises (D.failures replica.old.engine.disk) (D.failures replica.new.engine.disk) × (is_some replica.new.engine.halted ≡ true) }
     ensures runs { result ≢ Err Refusal.DiskFault → replica.new.engine.halted ≡ replica.old.engine.halted }
     ensures no_fault { result ≢ Err Refusal.DiskFault → D.failures replica.new.engine.disk ≡ D.failures replica.old.engine.disk }
     // On an honest device of a node what is written is what the joiner needs, whole.
-    ensures donated { (n : Node) → Holds D.honest D.history D.failures n replica.old → IfOk result (λ last. (t : Transfer) × IsDonated n have.now t × (t.last ≡ last) × Appends (W.contents writer.old) (W.contents writer.new) (transfer_bytes t)) }
+    ensures donated { (n : Node) → Holds D.Disk n replica.old → IfOk result (λ last. (t : Transfer) × IsDonated n have.now t × (t.last ≡ last) × Appends (W.contents writer.old) (W.contents writer.new) (transfer_bytes t)) }
     // On any device what is written is a transfer with all parts, or where it is refused a front of one, and shorter: so it is no transfer.
     ensures wrote { IfOk result (WroteTransfer replica.old.engine.checkpoint.base replica.old.engine.log have.now (W.contents writer.old) (W.contents writer.new)) }
-    ensures cut { IsFirstRefusal (facts_of D.failures replica.old) have.now None → OnErr result (WroteLess replica.old.engine.checkpoint.base replica.old.engine.log have.now (W.contents writer.old) (W.contents writer.new)) }
+    ensures cut { IsFirstRefusal (facts_of D.Disk replica.old) have.now None → OnErr result (WroteLess replica.old.engine.checkpoint.base replica.old.engine.log have.now (W.contents writer.old) (W.contents writer.new)) }
     // A part is told corrupt only where it is asked for.
     ensures asked { (part : Part) → result ≡ Err (Refusal.Corrupt part) → IsAskedFor replica.old.engine.checkpoint.base have.now part }
     // Whatever stands on an honest device: its bytes decide.
-    ensures spelled { D.honest replica.old.engine.disk → DonatesAsSpelled (as_seen D.history replica.old.engine) replica.old.engine.layout replica.old.engine.checkpoint.base replica.old.engine.log have.now (W.contents writer.old) (W.contents writer.new) result }
+    ensures spelled { D.honest replica.old.engine.disk → DonatesAsSpelled (as_seen D.Disk replica.old.engine) replica.old.engine.layout replica.old.engine.checkpoint.base replica.old.engine.log have.now (W.contents writer.old) (W.contents writer.new) result }
     ensures notes { Notes (W.failed writer.old) (W.failed writer.new) result }
 {
     if let Some(refusal) = donation_refusal(replica, have) {

@@ -40,8 +40,8 @@ fn take_header<D: Disk, R: Source>(
     transfer: &mut TransferReader,
     reader: &mut R,
 ) -> Result<Header, Refusal>
-    ensures taken { IfOk result (λ header. TakesHeader (facts_of D.failures replica.now) header (R.remaining reader.old) (R.remaining reader.new)) }
-    ensures refused { IfErr result (RefusesHeader (facts_of D.failures replica.now) (R.remaining reader.old)) }
+    ensures taken { IfOk result (λ header. TakesHeader (facts_of D.Disk replica.now) header (R.remaining reader.old) (R.remaining reader.new)) }
+    ensures refused { IfErr result (RefusesHeader (facts_of D.Disk replica.now) (R.remaining reader.old)) }
     ensures counted { OnOk result (transfer.new ≡ counted transfer.old 59) }
     ensures notes { Notes (R.failed reader.old) (R.failed reader.new) result }
 {
@@ -58,10 +58,10 @@ fn take_header<D: Disk, R: Source>(
 /// Lets the replica do what is due, until all that was delivered is durable.
 fn settle<D: Disk>(replica: &mut Replica<D>) -> Result<(), Refusal>
     requires running { IsRunning replica.old }
-    ensures grown { Grown D.honest D.history D.failures replica.old replica.new [] }
+    ensures grown { Grown D.Disk replica.old replica.new [] }
     ensures ends { EndsRunning result replica.new }
-    ensures tells { Tells D.honest D.history D.failures replica.old replica.new result }
-    ensures quiet { OnOk result (is_quiet (facts_of D.failures replica.new) ≡ true) }
+    ensures tells { Tells D.Disk replica.old replica.new result }
+    ensures quiet { OnOk result (is_quiet (facts_of D.Disk replica.new) ≡ true) }
     ensures refused { IfErr result EndsEarly }
 {
     history_by_items();
@@ -73,10 +73,10 @@ fn settle<D: Disk>(replica: &mut Replica<D>) -> Result<(), Refusal>
 /// Lets it do so where it would take no further item before.
 fn make_room<D: Disk>(replica: &mut Replica<D>) -> Result<(), Refusal>
     requires running { IsRunning replica.old }
-    ensures grown { Grown D.honest D.history D.failures replica.old replica.new [] }
+    ensures grown { Grown D.Disk replica.old replica.new [] }
     ensures ends { EndsRunning result replica.new }
-    ensures tells { Tells D.honest D.history D.failures replica.old replica.new result }
-    ensures room { OnOk result (length (facts_of D.failures replica.new).ahead < MAX_AHEAD) }
+    ensures tells { Tells D.Disk replica.old replica.new result }
+    ensures room { OnOk result (length (facts_of D.Disk replica.new).ahead < MAX_AHEAD) }
     ensures refused { IfErr result EndsEarly }
 {
     history_by_items();
@@ -97,14 +97,14 @@ fn judges_so<D: Disk>(replica: &Replica<D>, item: &Item, verdict: Verdict) -> bo
 /// Delivers the item, which stands at `at` of the transfer, where it is the next one and is judged as the transfer says.
 fn deliver<D: Disk>(replica: &mut Replica<D>, judged: Judged, at: u64) -> Result<(), Refusal>
     requires running { IsRunning replica.old }
-    requires defined { IsNil (facts_of D.failures replica.old).uuid → ⊥ }
+    requires defined { IsNil (facts_of D.Disk replica.old).uuid → ⊥ }
     requires within { judged.seqno ≤ MAX_SEQNO }
-    requires room { length (facts_of D.failures replica.old).ahead < MAX_AHEAD }
-    ensures grown { Grown D.honest D.history D.failures replica.old replica.new (where_ok result (judged ∷ [])) }
+    requires room { length (facts_of D.Disk replica.old).ahead < MAX_AHEAD }
+    ensures grown { Grown D.Disk replica.old replica.new (where_ok result (judged ∷ [])) }
     ensures ends { EndsRunning result replica.new }
-    ensures tells { Tells D.honest D.history D.failures replica.old replica.new result }
-    ensures limit { OnOk result (delivered (facts_of D.failures replica.new) ≤ MAX_SEQNO) }
-    ensures refused { IfErr result (IsOut D.failures replica.new (Record judged) at) }
+    ensures tells { Tells D.Disk replica.old replica.new result }
+    ensures limit { OnOk result (delivered (facts_of D.Disk replica.new) ≤ MAX_SEQNO) }
+    ensures refused { IfErr result (IsOut D.Disk replica.new (Record judged) at) }
 {
     history_by_items();
     nodes_hold_the_order();
@@ -131,13 +131,13 @@ fn deliver<D: Disk>(replica: &mut Replica<D>, judged: Judged, at: u64) -> Result
 /// Takes a record, which stands at `at` of the transfer.
 fn take_record<D: Disk>(replica: &mut Replica<D>, judged: Judged, at: u64) -> Result<(), Refusal>
     requires running { IsRunning replica.old }
-    requires defined { IsNil (facts_of D.failures replica.old).uuid → ⊥ }
+    requires defined { IsNil (facts_of D.Disk replica.old).uuid → ⊥ }
     requires fits { IsRecord judged }
-    ensures grown { Grown D.honest D.history D.failures replica.old replica.new (where_ok result (judged ∷ [])) }
+    ensures grown { Grown D.Disk replica.old replica.new (where_ok result (judged ∷ [])) }
     ensures ends { EndsRunning result replica.new }
-    ensures tells { Tells D.honest D.history D.failures replica.old replica.new result }
-    ensures limit { OnOk result (delivered (facts_of D.failures replica.new) ≤ MAX_SEQNO) }
-    ensures refused { IfErr result (IsOut D.failures replica.new (Record judged) at) }
+    ensures tells { Tells D.Disk replica.old replica.new result }
+    ensures limit { OnOk result (delivered (facts_of D.Disk replica.new) ≤ MAX_SEQNO) }
+    ensures refused { IfErr result (IsOut D.Disk replica.new (Record judged) at) }
 {
     history_by_items();
     runs_are_joined::<D>();
@@ -148,14 +148,14 @@ fn take_record<D: Disk>(replica: &mut Replica<D>, judged: Judged, at: u64) -> Re
 /// Takes a part behind a snapshot, which stands at `at` of the transfer: a record, or the end, whose position it then answers.
 fn take_part<D: Disk>(replica: &mut Replica<D>, part: Part, at: u64) -> Result<Option<u64>, Refusal>
     requires running { IsRunning replica.old }
-    requires defined { IsNil (facts_of D.failures replica.old).uuid → ⊥ }
+    requires defined { IsNil (facts_of D.Disk replica.old).uuid → ⊥ }
     requires fits { PartFits part }
-    ensures took { IfOk result (λ ended. Follows D.honest D.history D.failures replica.old replica.new ended (part_bytes part)) }
-    ensures more { IfOk result (λ ended. ended ≡ None → (delivered (facts_of D.failures replica.old) < delivered (facts_of D.failures replica.new)) × (delivered (facts_of D.failures replica.new) ≤ MAX_SEQNO)) }
-    ensures kept { OnErr result (Grown D.honest D.history D.failures replica.old replica.new []) }
+    ensures took { IfOk result (λ ended. Follows D.Disk replica.old replica.new ended (part_bytes part)) }
+    ensures more { IfOk result (λ ended. ended ≡ None → (delivered (facts_of D.Disk replica.old) < delivered (facts_of D.Disk replica.new)) × (delivered (facts_of D.Disk replica.new) ≤ MAX_SEQNO)) }
+    ensures kept { OnErr result (Grown D.Disk replica.old replica.new []) }
     ensures ends { EndsRunning result replica.new }
-    ensures tells { Tells D.honest D.history D.failures replica.old replica.new result }
-    ensures refused { IfErr result (IsOut D.failures replica.new part at) }
+    ensures tells { Tells D.Disk replica.old replica.new result }
+    ensures refused { IfErr result (IsOut D.Disk replica.new part at) }
 {
     history_by_items();
     runs_are_joined::<D>();
@@ -179,11 +179,11 @@ fn follow<D: Disk, R: Source>(
     reader: &mut R,
 ) -> Result<u64, Refusal>
     requires running { IsRunning replica.old }
-    requires defined { IsNil (facts_of D.failures replica.old).uuid → ⊥ }
-    ensures followed { IfOk result (λ last. Followed D.honest D.history D.failures replica.old replica.new transfer.old transfer.new (R.remaining reader.old) (R.remaining reader.new) (Some last)) }
+    requires defined { IsNil (facts_of D.Disk replica.old).uuid → ⊥ }
+    ensures followed { IfOk result (λ last. Followed D.Disk replica.old replica.new transfer.old transfer.new (R.remaining reader.old) (R.remaining reader.new) (Some last)) }
     ensures ends { EndsRunning result replica.new }
-    ensures tells { Tells D.honest D.history D.failures replica.old replica.new result }
-    ensures cut { IfErr result (Cut D.honest D.history D.failures replica.old replica.new (R.remaining reader.old) transfer.old) }
+    ensures tells { Tells D.Disk replica.old replica.new result }
+    ensures cut { IfErr result (Cut D.Disk replica.old replica.new (R.remaining reader.old) transfer.old) }
     ensures notes { Notes (R.failed reader.old) (R.failed reader.new) result }
 {
     history_by_items();
@@ -211,11 +211,11 @@ fn follow_from<D: Disk, R: Source>(
     requires running { IsRunning replica.old }
     requires fits { PartFits part }
     requires counted { transfer.old ≡ counted at (length (part_bytes part)) }
-    ensures defined { OnOk result (IsNil (facts_of D.failures replica.old).uuid → ⊥) }
-    ensures followed { IfOk result (FollowedFrom D.honest D.history D.failures replica.old replica.new (part_bytes part) (R.remaining reader.old) (R.remaining reader.new)) }
+    ensures defined { OnOk result (IsNil (facts_of D.Disk replica.old).uuid → ⊥) }
+    ensures followed { IfOk result (FollowedFrom D.Disk replica.old replica.new (part_bytes part) (R.remaining reader.old) (R.remaining reader.new)) }
     ensures ends { EndsRunning result replica.new }
-    ensures tells { Tells D.honest D.history D.failures replica.old replica.new result }
-    ensures cut { (before : Option (List ℕ)) → Consumes before (R.remaining reader.old) (part_bytes part) → IfErr result (Cut D.honest D.history D.failures replica.old replica.new before at) }
+    ensures tells { Tells D.Disk replica.old replica.new result }
+    ensures cut { (before : Option (List ℕ)) → Consumes before (R.remaining reader.old) (part_bytes part) → IfErr result (Cut D.Disk replica.old replica.new before at) }
     ensures notes { Notes (R.failed reader.old) (R.failed reader.new) result }
 {
     history_by_items();
@@ -241,14 +241,14 @@ fn take_snapshot<D: Disk, R: Source>(
     reader: &mut R,
 ) -> (Replica<D>, Result<u64, Refusal>)
     requires running { IsRunning replica }
-    requires quiet { is_quiet (facts_of D.failures replica) ≡ true }
+    requires quiet { is_quiet (facts_of D.Disk replica) ≡ true }
     requires header { IsHeader header.now }
-    requires cluster { (header.now.uuid ≡ (facts_of D.failures replica).uuid) ⊎ IsNil (facts_of D.failures replica).uuid }
+    requires cluster { (header.now.uuid ≡ (facts_of D.Disk replica).uuid) ⊎ IsNil (facts_of D.Disk replica).uuid }
     requires counted { transfer.old ≡ counted at (length (part_bytes (Snapshot position))) }
-    ensures taken { IfOk result.1 (λ last. TakesAll D.honest D.history D.failures replica result.0 header.now.format header.now.uuid last (part_bytes (Snapshot position)) (R.remaining reader.old) (R.remaining reader.new)) }
+    ensures taken { IfOk result.1 (λ last. TakesAll D.Disk replica result.0 header.now.format header.now.uuid last (part_bytes (Snapshot position)) (R.remaining reader.old) (R.remaining reader.new)) }
     ensures ends { EndsRunning result.1 result.0 }
-    ensures tells { Tells D.honest D.history D.failures replica result.0 result.1 }
-    ensures cut { (before : Option (List ℕ)) → Consumes before (R.remaining reader.old) (part_bytes (Snapshot position)) → IfErr result.1 (CutShort D.honest D.history D.failures replica result.0 header.now.format header.now.uuid before at) }
+    ensures tells { Tells D.Disk replica result.0 result.1 }
+    ensures cut { (before : Option (List ℕ)) → Consumes before (R.remaining reader.old) (part_bytes (Snapshot position)) → IfErr result.1 (CutShort D.Disk replica result.0 header.now.format header.now.uuid before at) }
     ensures notes { Notes (R.failed reader.old) (R.failed reader.new) result.1 }
 {
     history_by_items();
@@ -271,13 +271,13 @@ fn take_parts<D: Disk, R: Source>(
     reader: &mut R,
 ) -> (Replica<D>, Result<u64, Refusal>)
     requires running { IsRunning replica }
-    requires quiet { is_quiet (facts_of D.failures replica) ≡ true }
+    requires quiet { is_quiet (facts_of D.Disk replica) ≡ true }
     requires header { IsHeader header.now }
-    requires cluster { (header.now.uuid ≡ (facts_of D.failures replica).uuid) ⊎ IsNil (facts_of D.failures replica).uuid }
-    ensures taken { IfOk result.1 (λ last. TakesAll D.honest D.history D.failures replica result.0 header.now.format header.now.uuid last [] (R.remaining reader.old) (R.remaining reader.new)) }
+    requires cluster { (header.now.uuid ≡ (facts_of D.Disk replica).uuid) ⊎ IsNil (facts_of D.Disk replica).uuid }
+    ensures taken { IfOk result.1 (λ last. TakesAll D.Disk replica result.0 header.now.format header.now.uuid last [] (R.remaining reader.old) (R.remaining reader.new)) }
     ensures ends { EndsRunning result.1 result.0 }
-    ensures tells { Tells D.honest D.history D.failures replica result.0 result.1 }
-    ensures cut { IfErr result.1 (CutShort D.honest D.history D.failures replica result.0 header.now.format header.now.uuid (R.remaining reader.old) transfer.old) }
+    ensures tells { Tells D.Disk replica result.0 result.1 }
+    ensures cut { IfErr result.1 (CutShort D.Disk replica result.0 header.now.format header.now.uuid (R.remaining reader.old) transfer.old) }
     ensures notes { Notes (R.failed reader.old) (R.failed reader.new) result.1 }
 {
     history_by_items();
@@ -320,13 +320,13 @@ pub fn join<D: Disk, R: Source>(
     ensures early { (replica.stopped || is_some replica.engine.halted) ≡ false → IfErr result.1 JoinsEarly }
     ensures ends { (replica.stopped || is_some replica.engine.halted) ≡ false → EndsRunning result.1 result.0 }
     // The device's fault is told exactly where there was one, and of no honest device of a node that a page is not of its form.
-    ensures tells { Tells D.honest D.history D.failures replica result.0 result.1 }
-    ensures quiet { OnOk result.1 (is_quiet (facts_of D.failures result.0) ≡ true) }
-    ensures lived { Lived D.honest D.history D.failures replica result.0 }
+    ensures tells { Tells D.Disk replica result.0 result.1 }
+    ensures quiet { OnOk result.1 (is_quiet (facts_of D.Disk result.0) ≡ true) }
+    ensures lived { Lived D.Disk replica result.0 }
     // On any device: where it succeeds, the bytes began with a transfer of the replica's cluster and shape, of its form to its end.
-    ensures took { IfSome (R.remaining reader.old) (λ bytes. IfOk result.1 (TookTransfer D.failures bytes (R.remaining reader.new) replica result.0)) }
-    ensures joined { (n : Node) → Holds D.honest D.history D.failures n replica → IfSome (R.remaining reader.old) (λ bytes. IfOk result.1 (Joined D.honest D.history D.failures n bytes (R.remaining reader.new) replica result.0)) }
-    ensures ended { (replica.stopped || is_some replica.engine.halted) ≡ false → IfErr result.1 (Ended D.honest D.history D.failures replica result.0 (R.remaining reader.old)) }
+    ensures took { IfSome (R.remaining reader.old) (λ bytes. IfOk result.1 (TookTransfer D.Disk bytes (R.remaining reader.new) replica result.0)) }
+    ensures joined { (n : Node) → Holds D.Disk n replica → IfSome (R.remaining reader.old) (λ bytes. IfOk result.1 (Joined D.Disk n bytes (R.remaining reader.new) replica result.0)) }
+    ensures ended { (replica.stopped || is_some replica.engine.halted) ≡ false → IfErr result.1 (Ended D.Disk replica result.0 (R.remaining reader.old)) }
     ensures notes { Notes (R.failed reader.old) (R.failed reader.new) result.1 }
 {
     history_by_items();

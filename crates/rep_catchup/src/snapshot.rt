@@ -154,8 +154,8 @@ fn take_pages<D: Disk, R: Source>(
 ) -> Result<(), Refusal>
     requires running { installation.old.engine.halted ≡ None }
     requires none { (page : ℕ) → state_of_page installation.old.coming.next.super page ≡ Nowhere }
-    ensures taken { OnOk result ((pages : List Page) × (length pages ≡ count) × TakesPages D.honest D.history D.failures installation.old installation.new pages transfer.old transfer.new (R.remaining reader.old) (R.remaining reader.new)) }
-    ensures kept { (n : Node) → (y : State) → HoldsBoth D.honest D.history D.failures n y installation.old → OnErr result (LeavesPages D.honest D.history D.failures n installation.old installation.new) }
+    ensures taken { OnOk result ((pages : List Page) × (length pages ≡ count) × TakesPages D.Disk installation.old installation.new pages transfer.old transfer.new (R.remaining reader.old) (R.remaining reader.new)) }
+    ensures kept { (n : Node) → (y : State) → HoldsBoth D.Disk n y installation.old → OnErr result (LeavesPages D.Disk n installation.old installation.new) }
     ensures ends { EndsRunning result (given_up installation.new) }
     ensures told { TellsFaults (D.failures installation.old.engine.disk) (D.failures installation.new.engine.disk) result }
     ensures refused { IfErr result (λ e. (e ≡ StreamFault) ⊎ ((e ≡ DiskFault) ⊎ ((e ≡ Malformed at) × IfSome (R.remaining reader.old) (NoPagesCome installation.old.engine.checkpoint.base.params.rows count)))) }
@@ -178,7 +178,7 @@ fn take_pages<D: Disk, R: Source>(
 
 /// Whether a snapshot at this position may come: the replica is of no cluster, or has less of the order.
 fn may_come<D: Disk>(replica: &Replica<D>, position: u64) -> bool
-    ensures { (result ≡ true) ↔ (((facts_of D.failures replica.now).durable < position) ⊎ IsNil (facts_of D.failures replica.now).uuid) }
+    ensures { (result ≡ true) ↔ (((facts_of D.Disk replica.now).durable < position) ⊎ IsNil (facts_of D.Disk replica.now).uuid) }
 {
     replica.uuid().is_nil() || replica.durable() < position
 }
@@ -194,8 +194,8 @@ fn take_window<D: Disk, R: Source>(
     transfer: &mut TransferReader,
     reader: &mut R,
 ) -> Result<(Window, u16), Refusal>
-    ensures taken { IfOk result (λ x. TakesWindow format (facts_of D.failures replica.now) position x.0 x.1 transfer.old transfer.new (R.remaining reader.old) (R.remaining reader.new)) }
-    ensures refused { IfErr result (λ e. (e ≡ StreamFault) ⊎ ((e ≡ OutOfMemory) ⊎ ((e ≡ Malformed at) × IfSome (R.remaining reader.old) (NoneComes format (facts_of D.failures replica.now) position)))) }
+    ensures taken { IfOk result (λ x. TakesWindow format (facts_of D.Disk replica.now) position x.0 x.1 transfer.old transfer.new (R.remaining reader.old) (R.remaining reader.new)) }
+    ensures refused { IfErr result (λ e. (e ≡ StreamFault) ⊎ ((e ≡ OutOfMemory) ⊎ ((e ≡ Malformed at) × IfSome (R.remaining reader.old) (NoneComes format (facts_of D.Disk replica.now) position)))) }
     ensures notes { Notes (R.failed reader.old) (R.failed reader.new) result }
 {
     let malformed = Refusal::Malformed { at };
@@ -225,14 +225,14 @@ pub(crate) fn bring<D: Disk, R: Source>(
     reader: &mut R,
 ) -> (Replica<D>, Result<(), Refusal>)
     requires running { IsRunning replica }
-    requires quiet { is_quiet (facts_of D.failures replica) ≡ true }
+    requires quiet { is_quiet (facts_of D.Disk replica) ≡ true }
     requires header { IsHeader header.now }
-    requires cluster { (header.now.uuid ≡ (facts_of D.failures replica).uuid) ⊎ IsNil (facts_of D.failures replica).uuid }
-    ensures brought { OnOk result.1 (Brought D.honest D.history D.failures replica result.0 header.now.format header.now.uuid position transfer.old transfer.new (R.remaining reader.old) (R.remaining reader.new)) }
-    ensures left { IfErr result.1 (LeavesSnapshot D.honest D.history D.failures replica result.0 header.now.format header.now.uuid position transfer.old (R.remaining reader.old)) }
+    requires cluster { (header.now.uuid ≡ (facts_of D.Disk replica).uuid) ⊎ IsNil (facts_of D.Disk replica).uuid }
+    ensures brought { OnOk result.1 (Brought D.Disk replica result.0 header.now.format header.now.uuid position transfer.old transfer.new (R.remaining reader.old) (R.remaining reader.new)) }
+    ensures left { IfErr result.1 (LeavesSnapshot D.Disk replica result.0 header.now.format header.now.uuid position transfer.old (R.remaining reader.old)) }
     ensures ends { EndsRunning result.1 result.0 }
     ensures told { TellsFaults (D.failures replica.engine.disk) (D.failures result.0.engine.disk) result.1 }
-    ensures refused { IfErr result.1 (BringsEarly header.now.format (facts_of D.failures replica) position at (R.remaining reader.old)) }
+    ensures refused { IfErr result.1 (BringsEarly header.now.format (facts_of D.Disk replica) position at (R.remaining reader.old)) }
     ensures notes { Notes (R.failed reader.old) (R.failed reader.new) result.1 }
 {
     history_by_items();

@@ -16,6 +16,7 @@ use Rattle.rep_types.specs.Entries.{Entry}
 use Rattle.rep_types.specs.Windows.{Window}
 use Rattle.rep_types.specs.Order.{Order, State}
 use Rattle.rep_record.specs.Records.{IsRecord}
+use Rattle.rep_disk.specs.declared.disk.Disk.{Ghosts}
 use Rattle.rep_disk.specs.History.{History}
 use Rattle.rep_disk.specs.Calls.{Rises}
 use Rattle.rep_layout.specs.declared.format.Format.{Format}
@@ -52,8 +53,8 @@ says : (uuid : List ℕ) (durable : ℕ) (b : Bool) → is_nil_bytes uuid ≡ b 
 says uuid durable true is none = sym (none is)
 says uuid durable false is none = refl
 
-module _ {D : Type 0} (honest : D → Type 0) (history : D → History) (failures : D → ℕ) (O : Order) (n k : Node) (may : MayCatchUp O n k) (joiner : Replica D) (holds : Holds honest history failures k joiner) where
-  own : k.facts ≡ facts_of failures joiner
+module _ {D : Type 0} (g : Ghosts D) (O : Order) (n k : Node) (may : MayCatchUp O n k) (joiner : Replica D) (holds : Holds g k joiner) where
+  own : k.facts ≡ facts_of g joiner
   own = holds.facts
 
   said : (have_of joiner).position ≡ k.facts.durable
@@ -135,7 +136,7 @@ pages_position schema (p ∷ pages) y = pages_position schema pages _
 
 -- ---- where it is caught up
 
-module _ {D : Type 0} (honest : D → Type 0) (history : D → History) (failures : D → ℕ) (O : Order) (n k : Node) (have : Have) (t : Transfer) (given : IsGiven O n k have t) (old new : Replica D) (holds : Holds honest history failures k old) where
+module _ {D : Type 0} (g : Ghosts D) (O : Order) (n k : Node) (have : Have) (t : Transfer) (given : IsGiven O n k have t) (old new : Replica D) (holds : Holds g k old) where
   spans : k.facts.setting.window ≡ n.facts.setting.window
   spans = ap (λ (s : Shape). s.window) given.may.shape
 
@@ -143,7 +144,7 @@ module _ {D : Type 0} (honest : D → Type 0) (history : D → History) (failure
   tables = ap (λ (s : Shape). s.rows) given.may.shape
 
   module _ (told : TransfersAreTold) (hold : JoinersHoldTheOrder) where
-    held : (left : Option (List ℕ)) (last : ℕ) → Joined honest history failures k (transfer_bytes t) left old new last → CaughtUp honest history failures O n new last
+    held : (left : Option (List ℕ)) (last : ℕ) → Joined g k (transfer_bytes t) left old new last → CaughtUp g O n new last
     held left last joined =
         let u = joined.transfer in
         let same : t ≡ u = (told t u [] joined.rest given.donated.is_transfer joined.is_transfer (append-nil (transfer_bytes t) ∙ joined.front)).0 in
@@ -159,16 +160,16 @@ module _ {D : Type 0} (honest : D → Type 0) (history : D → History) (failure
           quiet = joined.quiet;
         }
 
-    pub caught : (bytes : List ℕ) (left : Option (List ℕ)) (result : Result ℕ Refusal) → bytes ≡ transfer_bytes t → IfOk result (Joined honest history failures k bytes left old new) → IfOk result (CaughtUp honest history failures O n new)
+    pub caught : (bytes : List ℕ) (left : Option (List ℕ)) (result : Result ℕ Refusal) → bytes ≡ transfer_bytes t → IfOk result (Joined g k bytes left old new) → IfOk result (CaughtUp g O n new)
     caught bytes left (Err e) are joined = tt
-    caught bytes left (Ok last) are joined = held left last (subst (λ (bs : List ℕ). Joined honest history failures k bs left old new last) are joined)
+    caught bytes left (Ok last) are joined = held left last (subst (λ (bs : List ℕ). Joined g k bs left old new last) are joined)
 
   -- ---- where it is refused
 
   abbrev pub Allowed : Refusal → Type 0
   Allowed e = (e ≡ OutOfMemory) ⊎ (e ≡ DiskFault)
 
-  module _ (parts : PartsAreTold) (next : DonatedPartsComeNext) (judges : JudgesAsItsNode honest history failures new) (e : Refusal) (other : e ≢ StreamFault) (whole : e ≢ Corrupt Pages) where
+  module _ (parts : PartsAreTold) (next : DonatedPartsComeNext) (judges : JudgesAsItsNode g new) (e : Refusal) (other : e ≢ StreamFault) (whole : e ≢ Corrupt Pages) where
     worked : EndsEarly e → Allowed e
     worked (inl memory) = inl memory
     worked (inr (inl fault)) = inr fault
@@ -178,30 +179,30 @@ module _ {D : Type 0} (honest : D → Type 0) (history : D → History) (failure
     header_is : (header : Header) (rest : List ℕ) → IsHeader header → transfer_bytes t ≡ header_bytes header ++ rest → header ≡ t.header
     header_is header rest is same = (parts t [] header None [] rest given.donated.is_transfer is tt tt tt (append-nil (transfer_bytes t) ∙ same)).0
 
-    module _ (settled : Replica D) (grown : Grown honest history failures old settled []) where
-      uuid_stays : (facts_of failures settled).uuid ≡ k.facts.uuid
+    module _ (settled : Replica D) (grown : Grown g old settled []) where
+      uuid_stays : (facts_of g settled).uuid ≡ k.facts.uuid
       uuid_stays = grown.uuid ∙ ap (λ (s : Standing). s.uuid) (sym holds.facts)
 
-      setting_stays : (facts_of failures settled).setting ≡ k.facts.setting
+      setting_stays : (facts_of g settled).setting ≡ k.facts.setting
       setting_stays = grown.setting ∙ ap (λ (s : Standing). s.setting) (sym holds.facts)
 
-      of_cluster : (k.facts.uuid ≡ n.facts.uuid) ⊎ IsNil k.facts.uuid → (t.header.uuid ≡ (facts_of failures settled).uuid) ⊎ IsNil (facts_of failures settled).uuid
+      of_cluster : (k.facts.uuid ≡ n.facts.uuid) ⊎ IsNil k.facts.uuid → (t.header.uuid ≡ (facts_of g settled).uuid) ⊎ IsNil (facts_of g settled).uuid
       of_cluster (inl same) = inl (given.donated.uuid ∙ sym same ∙ sym uuid_stays)
       of_cluster (inr nil) = inr (subst IsNil (sym uuid_stays) nil)
 
-      of_shape : t.header.shape ≡ shape_of (facts_of failures settled).setting
+      of_shape : t.header.shape ≡ shape_of (facts_of g settled).setting
       of_shape = given.donated.shape ∙ sym given.may.shape ∙ ap shape_of (sym setting_stays)
 
       -- it is refused for its header only where the reader failed
-      headed : RefusesHeader (facts_of failures settled) (Some (transfer_bytes t)) e → ⊥
+      headed : RefusesHeader (facts_of g settled) (Some (transfer_bytes t)) e → ⊥
       headed (inl stream) = other stream
       headed (inr (inl (is, none))) = none t.header _ given.donated.is_transfer.header refl
       headed (inr (inr (is, (header, rest, is_header, same, never)))) =
           let own = header_is header rest is_header same in
-          never (subst (λ (h : Header). (h.uuid ≡ (facts_of failures settled).uuid) ⊎ IsNil (facts_of failures settled).uuid) (sym own) (of_cluster given.may.cluster)) (ap (λ (h : Header). h.shape) own ∙ of_shape)
+          never (subst (λ (h : Header). (h.uuid ≡ (facts_of g settled).uuid) ⊎ IsNil (facts_of g settled).uuid) (sym own) (of_cluster given.may.cluster)) (ap (λ (h : Header). h.shape) own ∙ of_shape)
 
       -- the node at which it settled is as much the joiner's as the one before
-      node_settled : (m : Node) → (delivered m.facts ≡ delivered k.facts + 0) → ((L : Order) → IsOf L k → IsOf (L ++ []) m) → Holds honest history failures m settled → IsJoiner (take n.facts.durable O) m have
+      node_settled : (m : Node) → (delivered m.facts ≡ delivered k.facts + 0) → ((L : Order) → IsOf L k → IsOf (L ++ []) m) → Holds g m settled → IsJoiner (take n.facts.durable O) m have
       node_settled m count goes standing =
           let uuid : m.facts.uuid ≡ k.facts.uuid = ap (λ (s : Standing). s.uuid) standing.facts ∙ uuid_stays in
           let same : delivered k.facts ≡ delivered m.facts = omega (arith, count) in
@@ -212,18 +213,18 @@ module _ {D : Type 0} (honest : D → Type 0) (history : D → History) (failure
                 (goes (take (delivered m.facts) (take n.facts.durable O)) (subst (λ d. IsOf (take d (take n.facts.durable O)) k) same (given.joiner.front (λ nil. defined (subst IsNil (sym uuid) nil)))));
           }
 
-      module _ (header : Header) (own : header ≡ t.header) (left : List ℕ) (head : transfer_bytes t ≡ header_bytes header ++ left) (cut : CutShort honest history failures settled new header.format header.uuid (Some left) 59 e) where
+      module _ (header : Header) (own : header ≡ t.header) (left : List ℕ) (head : transfer_bytes t ≡ header_bytes header ++ left) (cut : CutShort g settled new header.format header.uuid (Some left) 59 e) where
         two : header.format ≡ Two
         two = ap (λ (h : Header). h.format) own ∙ given.donated.format
 
         tells_any : (f : Format) (p : Setting) (position : ℕ) (v : Window) → f ≡ Two → IsOfFormat f p position v
-        tells_any f p position v is = subst (λ (g : Format). IsOfFormat g p position v) (sym is) tt
+        tells_any f p position v is = subst (λ (one : Format). IsOfFormat one p position v) (sym is) tt
 
         told_any : (o : Option Snapshot) → IfSome o (IsTold header)
         told_any None = tt
         told_any (Some s) = tells_any header.format (least_of header.shape) s.position s.kept two
 
-        fits_any : (o : Option Snapshot) → Came header.format (facts_of failures settled) o → IfSome o SnapshotFits
+        fits_any : (o : Option Snapshot) → Came header.format (facts_of g settled) o → IfSome o SnapshotFits
         fits_any None comes = tt
         fits_any (Some s) comes = comes.0
 
@@ -233,7 +234,7 @@ module _ {D : Type 0} (honest : D → Type 0) (history : D → History) (failure
         defined (Some s) m a is brings same uuid nil = given.donated.is_transfer.header.defined (subst IsNil (uuid ∙ ap (λ (h : Header). h.uuid) own) nil)
 
         -- where it stands behind what was taken, the next part may come
-        may_follow : (rest : List ℕ) (at : ℕ) → IsTakenOf t cut.snapshot cut.records rest [] → NoneFollows failures new rest → e ≡ Malformed at → ⊥
+        may_follow : (rest : List ℕ) (at : ℕ) → IsTakenOf t cut.snapshot cut.records rest [] → NoneFollows g new rest → e ≡ Malformed at → ⊥
         may_follow rest at taken none is =
             let start = grown.node k holds in
             let a = start.0 in
@@ -243,11 +244,11 @@ module _ {D : Type 0} (honest : D → Type 0) (history : D → History) (failure
             let alike : a.facts.setting ≡ k.facts.setting = ap (λ (s : Standing). s.setting) start.2.facts ∙ setting_stays in
             let went : GoesOn a header.uuid t.snapshot cut.records m = subst (λ (o : Option Snapshot). GoesOn a header.uuid o cut.records m) taken.snapshot_is there.1 in
             let comes = next O n a m have t header.uuid cut.records taken.more given.node given.may.of joiner (ap (λ (p : Setting). p.window) alike ∙ spans) (ap (λ (p : Setting). p.rows) alike ∙ tables) given.donated there.2.node went taken.records_are in
-            let of : IsNil (facts_of failures new).uuid → ⊥ = λ nil.
+            let of : IsNil (facts_of g new).uuid → ⊥ = λ nil.
             defined cut.snapshot m a taken.snapshot_is given.donated.brings (ap (λ (s : Standing). s.uuid) start.2.facts ∙ uuid_stays) there.1.uuid_is (subst IsNil (ap (λ (s : Standing). s.uuid) (sym there.2.facts)) nil) in
             by taken.more m there.2 of comes (subst (AllByRecursion IsRecord) taken.records_are given.donated.is_transfer.records) taken.left_is
           where
-            by : (more : List Judged) (m : Node) → Holds honest history failures m new → (IsNil (facts_of failures new).uuid → ⊥) → AreNext m more t.last → AllByRecursion IsRecord (cut.records ++ more) → rest ≡ (flat_map record_part more ++ end_bytes t.last) ++ [] → ⊥
+            by : (more : List Judged) (m : Node) → Holds g m new → (IsNil (facts_of g new).uuid → ⊥) → AreNext m more t.last → AllByRecursion IsRecord (cut.records ++ more) → rest ≡ (flat_map record_part more ++ end_bytes t.last) ++ [] → ⊥
             by [] m standing of comes all same = none (OfEnd t.last) [] given.donated.is_transfer.last same (of, comes ∙ ap delivered standing.facts)
             by (j ∷ more) m standing of comes all same =
                 none (OfRecord j) (((flat_map record_part more) ++ end_bytes t.last) ++ []) (second IsRecord cut.records more j all)
@@ -261,54 +262,54 @@ module _ {D : Type 0} (honest : D → Type 0) (history : D → History) (failure
             let brings : Brings n have (Some s) t.records = subst (λ (o : Option Snapshot). Brings n have o t.records) before.first_is given.donated.brings in
             let fits : SnapshotFits s = subst (λ (o : Option Snapshot). IfSome o SnapshotFits) before.first_is given.donated.is_transfer.snapshot in
             let start = grown.node k holds in
-            let p = (facts_of failures settled).setting in
+            let p = (facts_of g settled).setting in
             let at_base : s.position ≡ n.facts.base = sym (pages_position n.facts.setting.rows s.pages _) ∙ ap (λ (y : State). y.position) brings.1.state ∙ given.node.position in
-            let count : delivered (facts_of failures settled) ≡ delivered k.facts = ap delivered (sym start.2.facts) ∙ (let same_count : delivered start.0.facts ≡ delivered k.facts = omega (arith, start.1.count) in same_count) in
-            let later : (delivered (facts_of failures settled) < s.position) ⊎ IsNil (facts_of failures settled).uuid = above brings.0 at_base count in
+            let count : delivered (facts_of g settled) ≡ delivered k.facts = ap delivered (sym start.2.facts) ∙ (let same_count : delivered start.0.facts ≡ delivered k.facts = omega (arith, start.1.count) in same_count) in
+            let later : (delivered (facts_of g settled) < s.position) ⊎ IsNil (facts_of g settled).uuid = above brings.0 at_base count in
             let bytes : left ≡ snapshot_bytes header.format s ++ ((flat_map record_part t.records ++ end_bytes t.last) ++ []) =
             same ∙ ap (λ (o : Option Snapshot). snapshot_part header.format o ++ (flat_map record_part cut.records ++ rest)) before.no_snapshot ∙ ap (λ (js : List Judged). flat_map record_part js ++ rest) before.no_record ∙ before.left_is
             ∙ ap (λ (h : Header). snapshot_bytes h.format s ++ ((flat_map record_part t.records ++ end_bytes t.last) ++ [])) (sym own) in
             cut.none before.no_snapshot before.no_record at is s _ fits (tells_any header.format p s.position s.kept two) bytes
             (snapshot_alike n.facts.setting p (sym tables ∙ ap (λ (q : Setting). q.rows) (sym setting_stays)) s brings.1.is_snapshot) later
           where
-            above : IsNil have.uuid ⊎ (have.position < n.facts.base) → before.first.position ≡ n.facts.base → delivered (facts_of failures settled) ≡ delivered k.facts → (delivered (facts_of failures settled) < before.first.position) ⊎ IsNil (facts_of failures settled).uuid
+            above : IsNil have.uuid ⊎ (have.position < n.facts.base) → before.first.position ≡ n.facts.base → delivered (facts_of g settled) ≡ delivered k.facts → (delivered (facts_of g settled) < before.first.position) ⊎ IsNil (facts_of g settled).uuid
             above (inl nil) at_base count = inr (subst IsNil (given.joiner.uuid ∙ sym uuid_stays) nil)
             above (inr below) at_base count = inl (omega (arith, below, at_base, count, given.joiner.position))
 
-        cut_for : (at : ℕ) → e ≡ Malformed at → IfSome cut.left (NoneFollows failures new) → ⊥
+        cut_for : (at : ℕ) → e ≡ Malformed at → IfSome cut.left (NoneFollows g new) → ⊥
         cut_for at is none =
             let rest = has_rest left (snapshot_part header.format cut.snapshot ++ flat_map record_part cut.records) cut.left cut.taken in
             let behind : left ≡ snapshot_part header.format cut.snapshot ++ (flat_map record_part cut.records ++ rest.rest) = rest.front ∙ append_assoc (snapshot_part header.format cut.snapshot) (flat_map record_part cut.records) rest.rest in
             let told = (parts t [] header cut.snapshot cut.records rest.rest given.donated.is_transfer (subst IsHeader (sym own) given.donated.is_transfer.header) (fits_any cut.snapshot cut.comes) (told_any cut.snapshot) cut.are_records
             (append-nil (transfer_bytes t) ∙ head ∙ ap (λ (bs : List ℕ). header_bytes header ++ bs) behind)).1 in
-            by rest.rest told behind (subst (λ (o : Option (List ℕ)). IfSome o (NoneFollows failures new)) rest.left_is none)
+            by rest.rest told behind (subst (λ (o : Option (List ℕ)). IfSome o (NoneFollows g new)) rest.left_is none)
           where
-            by : (l : List ℕ) → IsTakenOf t cut.snapshot cut.records l [] ⊎ IsBeforeSnapshot t cut.snapshot cut.records l [] → left ≡ snapshot_part header.format cut.snapshot ++ (flat_map record_part cut.records ++ l) → NoneFollows failures new l → ⊥
+            by : (l : List ℕ) → IsTakenOf t cut.snapshot cut.records l [] ⊎ IsBeforeSnapshot t cut.snapshot cut.records l [] → left ≡ snapshot_part header.format cut.snapshot ++ (flat_map record_part cut.records ++ l) → NoneFollows g new l → ⊥
             by l (inl taken) behind none = may_follow l at taken none is
             by l (inr before) behind none = snapshot_comes l at before behind is
 
-        cut_allowed : EndsHere failures new (counted 59 (length (snapshot_part header.format cut.snapshot ++ flat_map record_part cut.records))) cut.left e → Allowed e
+        cut_allowed : EndsHere g new (counted 59 (length (snapshot_part header.format cut.snapshot ++ flat_map record_part cut.records))) cut.left e → Allowed e
         cut_allowed (inl stream) = absurd (other stream)
         cut_allowed (inr (inl work)) = worked work
         cut_allowed (inr (inr (is, none))) = absurd (cut_for _ is none)
 
-    ended : Ended honest history failures old new (Some (transfer_bytes t)) e → Allowed e
+    ended : Ended g old new (Some (transfer_bytes t)) e → Allowed e
     ended how = by how.why
       where
-        by : ((EndsEarly e ⊎ RefusesHeader (facts_of failures how.settled) (Some (transfer_bytes t)) e) × (how.settled ≡ new))
-            ⊎ ((header : Header) × (left : Option (List ℕ)) × TakesHeader (facts_of failures how.settled) header (Some (transfer_bytes t)) left × CutShort honest history failures how.settled new header.format header.uuid left 59 e) → Allowed e
+        by : ((EndsEarly e ⊎ RefusesHeader (facts_of g how.settled) (Some (transfer_bytes t)) e) × (how.settled ≡ new))
+            ⊎ ((header : Header) × (left : Option (List ℕ)) × TakesHeader (facts_of g how.settled) header (Some (transfer_bytes t)) left × CutShort g how.settled new header.format header.uuid left 59 e) → Allowed e
         by (inl (inl work, same)) = worked work
         by (inl (inr header, same)) = absurd (headed how.settled how.grown header)
         by (inr (header, left, takes, cut)) =
             let rest = has_rest (transfer_bytes t) (header_bytes header) left takes.taken in
-            let cut_here : CutShort honest history failures how.settled new header.format header.uuid (Some rest.rest) 59 e = subst (λ (o : Option (List ℕ)). CutShort honest history failures how.settled new header.format header.uuid o 59 e) rest.left_is cut in
+            let cut_here : CutShort g how.settled new header.format header.uuid (Some rest.rest) 59 e = subst (λ (o : Option (List ℕ)). CutShort g how.settled new header.format header.uuid o 59 e) rest.left_is cut in
             cut_allowed how.settled how.grown header (header_is header rest.rest takes.is_header rest.front) rest.rest rest.front cut_here cut_here.ends
 
-  pub refused : PartsAreTold → DonatedPartsComeNext → JudgesAsItsNode honest history failures new → (bytes : List ℕ) (result : Result ℕ Refusal) → bytes ≡ transfer_bytes t → (result ≡ Err StreamFault → ⊥) → Tells honest history failures old new result
-      → IfErr result (Ended honest history failures old new (Some bytes)) → IfErr result Allowed
+  pub refused : PartsAreTold → DonatedPartsComeNext → JudgesAsItsNode g new → (bytes : List ℕ) (result : Result ℕ Refusal) → bytes ≡ transfer_bytes t → (result ≡ Err StreamFault → ⊥) → Tells g old new result
+      → IfErr result (Ended g old new (Some bytes)) → IfErr result Allowed
   refused parts next judges bytes (Ok last) are stream tells how = tt
   refused parts next judges bytes (Err e) are stream tells how =
-      ended parts next judges e (λ is. stream (ap (λ (f : Refusal). Err f) is)) (λ is. tells.whole k holds Pages is) (subst (λ (bs : List ℕ). Ended honest history failures old new (Some bs) e) are how)
+      ended parts next judges e (λ is. stream (ap (λ (f : Refusal). Err f) is)) (λ is. tells.whole k holds Pages is) (subst (λ (bs : List ℕ). Ended g old new (Some bs) e) are how)
 
 -- ---- what the donor refuses
 
@@ -322,28 +323,12 @@ module _ (e told : Refusal) (is : ((e ≡ StreamFault) × (told ≡ OutOfMemory)
       by (inr other) (inr (inl fault)) = inr (other.1 ∙ fault)
       by (inr other) (inr (inr (part, bad))) = absurd (whole part bad)
 
-  pub fault_is : told ≡ DiskFault → e ≡ DiskFault
-  fault_is fault = by is
-    where
-      by : ((e ≡ StreamFault) × (told ≡ OutOfMemory)) ⊎ ((e ≢ StreamFault) × (told ≡ e)) → e ≡ DiskFault
-      by (inl stream) = absurd (let never : OutOfMemory ≡ DiskFault = sym stream.1 ∙ fault in cc)
-      by (inr other) = sym other.1 ∙ fault
-
   pub fault_told : e ≡ DiskFault → told ≡ DiskFault
   fault_told fault = by is
     where
       by : ((e ≡ StreamFault) × (told ≡ OutOfMemory)) ⊎ ((e ≢ StreamFault) × (told ≡ e)) → told ≡ DiskFault
       by (inl stream) = absurd (let never : DiskFault ≡ StreamFault = sym fault ∙ stream.0 in cc)
       by (inr other) = other.1 ∙ fault
-
-  pub short_is : GivesUpEarly e → told ≡ OutOfMemory → e ≡ StreamFault
-  short_is early short = by is early
-    where
-      by : ((e ≡ StreamFault) × (told ≡ OutOfMemory)) ⊎ ((e ≢ StreamFault) × (told ≡ e)) → GivesUpEarly e → e ≡ StreamFault
-      by (inl stream) early = stream.0
-      by (inr other) (inl stream) = stream
-      by (inr other) (inr (inl fault)) = absurd (let never : DiskFault ≡ OutOfMemory = sym fault ∙ sym other.1 ∙ short in cc)
-      by (inr other) (inr (inr (part, bad))) = absurd (let never : Corrupt part ≡ OutOfMemory = sym bad ∙ sym other.1 ∙ short in cc)
 
 -- what was written into a room that held nothing
 pub written_is : (old new : Held) (bytes : List ℕ) → old ≡ record { bytes = []; failed = false } → Appends (Some old.bytes) (Some new.bytes) bytes → new.bytes ≡ bytes
@@ -358,6 +343,6 @@ pub ok_other : {T : Type 0} (x : T) (f : Refusal) (r : Result T Refusal) → r �
 ok_other x f r is was = cc
 
 -- a failed device is told by its count
-pub fault_rises : {D T : Type 0} (honest : D → Type 0) (history : D → History) (failures : D → ℕ) (old new : Replica D) (result : Result T Refusal) → Tells honest history failures old new result → result ≡ Err DiskFault → Rises (failures old.engine.disk) (failures new.engine.disk)
-fault_rises honest history failures old new (Ok x) tells fault = absurd (ok_other x DiskFault (Ok x) refl fault)
-fault_rises honest history failures old new (Err e) tells fault = tells.faults.fault (err_is e DiskFault (Err e) refl fault)
+pub fault_rises : {D T : Type 0} (g : Ghosts D) (old new : Replica D) (result : Result T Refusal) → Tells g old new result → result ≡ Err DiskFault → Rises (g.failures old.engine.disk) (g.failures new.engine.disk)
+fault_rises g old new (Ok x) tells fault = absurd (ok_other x DiskFault (Ok x) refl fault)
+fault_rises g old new (Err e) tells fault = tells.faults.fault (err_is e DiskFault (Err e) refl fault)

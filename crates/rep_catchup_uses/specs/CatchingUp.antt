@@ -1,7 +1,7 @@
 -- How a node is brought up to date by another one.
 use Rattle.std.specs.Prelude.{◌≡◌, ◌⊎◌, ℕ, ◌≤◌, true, false, [], take}
 use Rattle.rep_types.specs.Order.{Order}
-use Rattle.rep_disk.specs.History.{History}
+use Rattle.rep_disk.specs.declared.disk.Disk.{Ghosts}
 use Rattle.rep_layout.specs.Supers.{IsNil}
 use Rattle.rep_steps.specs.Nodes.{Node, IsNode}
 use Rattle.rep_steps.specs.Orders.{IsOf}
@@ -36,12 +36,12 @@ pub record IsGiven (O : Order) (n k : Node) (have : Have) (t : Transfer) : Type 
 
 -- The joiner holds the donor's order up to what is durable there, which is the position that was answered, and all of it is durable; it is of
 -- the donor's cluster, and nothing is due at it.
-pub record CaughtUp {D : Type 0} (honest : D → Type 0) (history : D → History) (failures : D → ℕ) (O : Order) (n : Node) (new : Replica D) (last : ℕ) : Type 0 where
+pub record CaughtUp {D : Type 0} (g : Ghosts D) (O : Order) (n : Node) (new : Replica D) (last : ℕ) : Type 0 where
   pub last_is : last ≡ n.facts.durable
   pub node : Node
   pub cluster : node.facts.uuid ≡ n.facts.uuid
   pub of : IsOf (take n.facts.durable O) node
   pub durable : node.facts.durable ≡ n.facts.durable
   pub none : node.facts.ahead ≡ []
-  pub holds : Holds honest history failures node new
-  pub quiet : is_quiet (facts_of failures new) ≡ true
+  pub holds : Holds g node new
+  pub quiet : is_quiet (facts_of g new) ≡ true

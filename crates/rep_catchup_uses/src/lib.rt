@@ -37,12 +37,12 @@ fn in_memory(refusal: Refusal) -> Refusal
 /// Refuses with `OutOfMemory` where that has no room, and else as `donate` does.
 fn give<D: Disk>(donor: &mut Replica<D>, have: &Have, room: &mut MemorySink) -> Result<(), Refusal>
     requires { room.old ≡ record { bytes = []; failed = false } }
-    ensures given { (n : Node) → Holds D.honest D.history D.failures n donor.old → OnOk result ((t : Transfer) × IsDonated n have.now t × (room.new.bytes ≡ transfer_bytes t)) }
-    ensures refused { (n : Node) → Holds D.honest D.history D.failures n donor.old → IsFirstRefusal (facts_of D.failures donor.old) have.now None → IfErr result (λ e. (e ≡ OutOfMemory) ⊎ (e ≡ DiskFault)) }
-    ensures donor { (n : Node) → Holds D.honest D.history D.failures n donor.old → result ≢ Err DiskFault → Holds D.honest D.history D.failures n donor.new }
+    ensures given { (n : Node) → Holds D.Disk n donor.old → OnOk result ((t : Transfer) × IsDonated n have.now t × (room.new.bytes ≡ transfer_bytes t)) }
+    ensures refused { (n : Node) → Holds D.Disk n donor.old → IsFirstRefusal (facts_of D.Disk donor.old) have.now None → IfErr result (λ e. (e ≡ OutOfMemory) ⊎ (e ≡ DiskFault)) }
+    ensures donor { (n : Node) → Holds D.Disk n donor.old → result ≢ Err DiskFault → Holds D.Disk n donor.new }
     ensures fault { result ≡ Err DiskFault → Rises (D.failures donor.old.engine.disk) (D.failures donor.new.engine.disk) }
     // It is refused for want of room only where the sink noted that it found none.
-    ensures short { IsFirstRefusal (facts_of D.failures donor.old) have.now None → result ≡ Err OutOfMemory → room.new.failed ≡ true }
+    ensures short { IsFirstRefusal (facts_of D.Disk donor.old) have.now None → result ≡ Err OutOfMemory → room.new.failed ≡ true }
 {
     match donate(donor, have, room) {
         Ok(_) => Ok(()),
@@ -56,8 +56,8 @@ fn take<D: Disk>(
     joiner: Replica<D>,
     bytes: &[u8],
 ) -> (Replica<D>, Result<u64, Refusal>)
-    ensures caught { (O : Order) (n k : Node) (have : What) (t : Transfer) → IsGiven O n k have t → bytes.now ≡ transfer_bytes t → Holds D.honest D.history D.failures k joiner → IfOk result.1 (CaughtUp D.honest D.history D.failures O n result.0) }
-    ensures refused { (O : Order) (n k : Node) (have : What) (t : Transfer) → IsGiven O n k have t → bytes.now ≡ transfer_bytes t → Holds D.honest D.history D.failures k joiner → IfErr result.1 (λ e. (e ≡ OutOfMemory) ⊎ (e ≡ DiskFault)) }
+    ensures caught { (O : Order) (n k : Node) (have : What) (t : Transfer) → IsGiven O n k have t → bytes.now ≡ transfer_bytes t → Holds D.Disk k joiner → IfOk result.1 (CaughtUp D.Disk O n result.0) }
+    ensures refused { (O : Order) (n k : Node) (have : What) (t : Transfer) → IsGiven O n k have t → bytes.now ≡ transfer_bytes t → Holds D.Disk k joiner → IfErr result.1 (λ e. (e ≡ OutOfMemory) ⊎ (e ≡ DiskFault)) }
     ensures fault { result.1 ≡ Err DiskFault → Rises (D.failures joiner.engine.disk) (D.failures result.0.engine.disk) }
 {
     transfers_are_told();
@@ -81,10 +81,10 @@ pub fn caught_up<D: Disk, E: Disk>(
     donor: &mut Replica<D>,
     joiner: Replica<E>,
 ) -> (Replica<E>, Result<u64, Refusal>)
-    ensures caught { (O : Order) (n k : Node) → MayCatchUp O n k → Holds D.honest D.history D.failures n donor.old → Holds E.honest E.history E.failures k joiner → IfOk result.1 (CaughtUp E.honest E.history E.failures O n result.0) }
-    ensures refused { (O : Order) (n k : Node) → MayCatchUp O n k → Holds D.honest D.history D.failures n donor.old → Holds E.honest E.history E.failures k joiner → IfErr result.1 (λ e. (e ≡ OutOfMemory) ⊎ (e ≡ DiskFault)) }
+    ensures caught { (O : Order) (n k : Node) → MayCatchUp O n k → Holds D.Disk n donor.old → Holds E.Disk k joiner → IfOk result.1 (CaughtUp E.Disk O n result.0) }
+    ensures refused { (O : Order) (n k : Node) → MayCatchUp O n k → Holds D.Disk n donor.old → Holds E.Disk k joiner → IfErr result.1 (λ e. (e ≡ OutOfMemory) ⊎ (e ≡ DiskFault)) }
     // Unless a device failed, the donor stands for the node that it stood for.
-    ensures donor { (n : Node) → Holds D.honest D.history D.failures n donor.old → result.1 ≢ Err DiskFault → Holds D.honest D.history D.failures n donor.new }
+    ensures donor { (n : Node) → Holds D.Disk n donor.old → result.1 ≢ Err DiskFault → Holds D.Disk n donor.new }
     ensures fault { result.1 ≡ Err DiskFault → Rises (D.failures donor.old.engine.disk) (D.failures donor.new.engine.disk) ⊎ Rises (E.failures joiner.engine.disk) (E.failures result.0.engine.disk) }
 {
     let have = have(&joiner);

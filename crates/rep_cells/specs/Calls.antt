@@ -1,5 +1,6 @@
 -- What each call does to the device and to what is known of its places.
 use Rattle.std.specs.Prelude.{◌≡◌, ℕ, ◌+◌, ◌≤◌, List, length, Option, Result, IfOk, OnOk, OnErr, replicate, ◌∷◌}
+use Rattle.rep_disk.specs.declared.disk.Disk.{Ghosts}
 use Rattle.rep_disk.specs.History.{History, Wrote, seen, IsImage}
 use Rattle.rep_disk.specs.Calls.{MaySpoil}
 use Rattle.rep_disk.specs.Moments.{LeavesOnly}
@@ -66,33 +67,33 @@ pub record Settled {T E : Type 0} (l : Layout) (old new : History) (s : States) 
   pub again : Syncs after after
 
 -- On an honest device: a write of these bytes, and of nothing else.
-abbrev pub WritesOnly : {D T E : Type 0} → (D → Type 0) → (D → History) → ℕ → List ℕ → D → D → Result T E → Type 0
-WritesOnly honest history at bytes old new result = honest old → Writes at bytes (history old) (history new) result
+abbrev pub WritesOnly : {D T E : Type 0} → Ghosts D → ℕ → List ℕ → D → D → Result T E → Type 0
+WritesOnly g at bytes old new result = g.honest old → Writes at bytes (g.history old) (g.history new) result
 
 -- On an honest device: what succeeded is one write, within this place.
-abbrev pub WritesIn : {D T E : Type 0} → (D → Type 0) → (D → History) → Layout → Place → D → D → Result T E → Type 0
-WritesIn honest history l place old new result = honest old → OnOk result (WroteIn l place (history old) (history new))
+abbrev pub WritesIn : {D T E : Type 0} → Ghosts D → Layout → Place → D → D → Result T E → Type 0
+WritesIn g l place old new result = g.honest old → OnOk result (WroteIn l place (g.history old) (g.history new))
 
 -- On an honest device: whatever the states were, one place takes this step.
-abbrev pub StepsAt : {D T E : Type 0} → (D → Type 0) → (D → History) → Layout → Place → (State → State) → D → D → Result T E → Type 0
-StepsAt honest history l place step old new result = honest old → (s : States) → Assigns l (history old) s → Stepped l (history old) (history new) s place step result
+abbrev pub StepsAt : {D T E : Type 0} → Ghosts D → Layout → Place → (State → State) → D → D → Result T E → Type 0
+StepsAt g l place step old new result = g.honest old → (s : States) → Assigns l (g.history old) s → Stepped l (g.history old) (g.history new) s place step result
 
 -- On an honest device: whatever the states were, a sync makes them stable.
-abbrev pub Settles : {D T E : Type 0} → (D → Type 0) → (D → History) → Layout → D → D → Result T E → Type 0
-Settles honest history l old new result = honest old → (s : States) → Assigns l (history old) s → Settled l (history old) (history new) s result
+abbrev pub Settles : {D T E : Type 0} → Ghosts D → Layout → D → D → Result T E → Type 0
+Settles g l old new result = g.honest old → (s : States) → Assigns l (g.history old) s → Settled l (g.history old) (g.history new) s result
 
 -- On an honest device: what is read where no write failed is what the place reads as.
-abbrev pub ReadsPlace : {D T E : Type 0} → (D → Type 0) → (D → History) → Layout → Place → D → Result T E → (T → Option (List ℕ)) → Type 0
-ReadsPlace honest history l place old result body_in = honest old → IsReadable l (history old) place → IfOk result (λ found. body_in found ≡ reading_of l (seen (history old)) place)
+abbrev pub ReadsPlace : {D T E : Type 0} → Ghosts D → Layout → Place → D → Result T E → (T → Option (List ℕ)) → Type 0
+ReadsPlace g l place old result body_in = g.honest old → IsReadable l (g.history old) place → IfOk result (λ found. body_in found ≡ reading_of l (seen (g.history old)) place)
 
 -- On an honest device: what is read is what the place's state shows, where that is sure.
-abbrev pub ShowsPlace : {D T E : Type 0} → (D → Type 0) → (D → History) → Layout → Place → D → Result T E → (T → Option (List ℕ)) → Type 0
-ShowsPlace honest history l place old result body_in = honest old → (s : States) → Assigns l (history old) s → IsSure (s place) → IfOk result (λ found. Shows (s place) (body_in found))
+abbrev pub ShowsPlace : {D T E : Type 0} → Ghosts D → Layout → Place → D → Result T E → (T → Option (List ℕ)) → Type 0
+ShowsPlace g l place old result body_in = g.honest old → (s : States) → Assigns l (g.history old) s → IsSure (s place) → IfOk result (λ found. Shows (s place) (body_in found))
 
 -- On an honest device: what is read where no write failed is the body that lies there.
-abbrev pub ReadsBody : {D T E : Type 0} → (D → Type 0) → (D → History) → Layout → Place → D → Result T E → List ℕ → Type 0
-ReadsBody honest history l place old result bytes = honest old → IsBodyReadable l (history old) place → OnOk result (bytes ≡ body_of l place (seen (history old)))
+abbrev pub ReadsBody : {D T E : Type 0} → Ghosts D → Layout → Place → D → Result T E → List ℕ → Type 0
+ReadsBody g l place old result bytes = g.honest old → IsBodyReadable l (g.history old) place → OnOk result (bytes ≡ body_of l place (seen (g.history old)))
 
 -- On an honest device: what is read of a cell that stands open is its body.
-abbrev pub ReadsOpened : {D T E : Type 0} → (D → Type 0) → (D → History) → Layout → Place → D → Result T E → List ℕ → Type 0
-ReadsOpened honest history l place old result bytes = honest old → (s : States) (body : List ℕ) → Assigns l (history old) s → s place ≡ Opened body → OnOk result (bytes ≡ body)
+abbrev pub ReadsOpened : {D T E : Type 0} → Ghosts D → Layout → Place → D → Result T E → List ℕ → Type 0
+ReadsOpened g l place old result bytes = g.honest old → (s : States) (body : List ℕ) → Assigns l (g.history old) s → s place ≡ Opened body → OnOk result (bytes ≡ body)

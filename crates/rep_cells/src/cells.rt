@@ -1,7 +1,7 @@
 //! The device, its places, and the calls.
 ghost use Rattle.std.specs.Prelude.{◌≡◌, ◌↔◌, ◌<◌, ◌≤◌, ℕ, Some, length, IsErr, IfOk, IfErr, IfSome, OnOk, OnErr, option_map};
 ghost use Rattle.rep_disk.specs.History.{Synced, seen};
-ghost use Rattle.rep_disk.specs.Calls.{IsCall};
+ghost use Rattle.rep_disk.specs.Devices.{Calls, SameHistory};
 ghost use Rattle.rep_layout.specs.Places.{body_len, offset_of, gate_of, need_of};
 ghost use Rattle.rep_cells.specs.Readings.{IsPlace, IsCell, IsArea};
 ghost use Rattle.rep_cells.specs.States.{Unknown, filling, opening, closing, writing};
@@ -79,11 +79,11 @@ impl<D: Disk> Cells<D> {
     pub fn fill(&mut self, cell: Place, body: &[u8]) -> Result<(), DiskFault>
         requires cell { IsCell (layout_of self.old) cell }
         requires size { length body.now ≡ body_len cell }
-        ensures call { IsCall D.size D.failures D.honest (disk_of self.old) (disk_of self.new) result }
+        ensures call { Calls D.Disk (disk_of self.old) (disk_of self.new) result }
         ensures layout { layout_of self.new ≡ layout_of self.old }
-        ensures written { WritesOnly D.honest D.history (offset_of (layout_of self.old) cell) body.now (disk_of self.old) (disk_of self.new) result }
-        ensures inside { WritesIn D.honest D.history (layout_of self.old) cell (disk_of self.old) (disk_of self.new) result }
-        ensures states { StepsAt D.honest D.history (layout_of self.old) cell (filling body.now) (disk_of self.old) (disk_of self.new) result }
+        ensures written { WritesOnly D.Disk (offset_of (layout_of self.old) cell) body.now (disk_of self.old) (disk_of self.new) result }
+        ensures inside { WritesIn D.Disk (layout_of self.old) cell (disk_of self.old) (disk_of self.new) result }
+        ensures states { StepsAt D.Disk (layout_of self.old) cell (filling body.now) (disk_of self.old) (disk_of self.new) result }
     {
         self.disk.write_at(self.layout.offset(cell), body)
     }
@@ -91,10 +91,10 @@ impl<D: Disk> Cells<D> {
     /// Writes a cell's gate, whose first byte is this one.
     fn write_gate(&mut self, cell: Place, first: u8) -> Result<(), DiskFault>
         requires { IsCell (layout_of self.old) cell }
-        ensures call { IsCall D.size D.failures D.honest (disk_of self.old) (disk_of self.new) result }
+        ensures call { Calls D.Disk (disk_of self.old) (disk_of self.new) result }
         ensures layout { layout_of self.new ≡ layout_of self.old }
-        ensures written { WritesOnly D.honest D.history (gate_of (layout_of self.old) cell) (gate first) (disk_of self.old) (disk_of self.new) result }
-        ensures inside { WritesIn D.honest D.history (layout_of self.old) cell (disk_of self.old) (disk_of self.new) result }
+        ensures written { WritesOnly D.Disk (gate_of (layout_of self.old) cell) (gate first) (disk_of self.old) (disk_of self.new) result }
+        ensures inside { WritesIn D.Disk (layout_of self.old) cell (disk_of self.old) (disk_of self.new) result }
     {
         self.disk
             .write_at(self.layout.gate(cell), &gate_sector(first))
@@ -104,11 +104,11 @@ impl<D: Disk> Cells<D> {
     /// its body, and as its body from the next successful sync on.
     pub fn open_gate(&mut self, cell: Place) -> Result<(), DiskFault>
         requires { IsCell (layout_of self.old) cell }
-        ensures call { IsCall D.size D.failures D.honest (disk_of self.old) (disk_of self.new) result }
+        ensures call { Calls D.Disk (disk_of self.old) (disk_of self.new) result }
         ensures layout { layout_of self.new ≡ layout_of self.old }
-        ensures written { WritesOnly D.honest D.history (gate_of (layout_of self.old) cell) (gate 0xA5) (disk_of self.old) (disk_of self.new) result }
-        ensures inside { WritesIn D.honest D.history (layout_of self.old) cell (disk_of self.old) (disk_of self.new) result }
-        ensures states { StepsAt D.honest D.history (layout_of self.old) cell opening (disk_of self.old) (disk_of self.new) result }
+        ensures written { WritesOnly D.Disk (gate_of (layout_of self.old) cell) (gate 0xA5) (disk_of self.old) (disk_of self.new) result }
+        ensures inside { WritesIn D.Disk (layout_of self.old) cell (disk_of self.old) (disk_of self.new) result }
+        ensures states { StepsAt D.Disk (layout_of self.old) cell opening (disk_of self.old) (disk_of self.new) result }
     {
         self.write_gate(cell, OPEN)
     }
@@ -117,11 +117,11 @@ impl<D: Disk> Cells<D> {
     /// the next successful sync on. Closing a cell that is closed destroys what is known of it.
     pub fn close_gate(&mut self, cell: Place) -> Result<(), DiskFault>
         requires { IsCell (layout_of self.old) cell }
-        ensures call { IsCall D.size D.failures D.honest (disk_of self.old) (disk_of self.new) result }
+        ensures call { Calls D.Disk (disk_of self.old) (disk_of self.new) result }
         ensures layout { layout_of self.new ≡ layout_of self.old }
-        ensures written { WritesOnly D.honest D.history (gate_of (layout_of self.old) cell) (gate 0) (disk_of self.old) (disk_of self.new) result }
-        ensures inside { WritesIn D.honest D.history (layout_of self.old) cell (disk_of self.old) (disk_of self.new) result }
-        ensures states { StepsAt D.honest D.history (layout_of self.old) cell closing (disk_of self.old) (disk_of self.new) result }
+        ensures written { WritesOnly D.Disk (gate_of (layout_of self.old) cell) (gate 0) (disk_of self.old) (disk_of self.new) result }
+        ensures inside { WritesIn D.Disk (layout_of self.old) cell (disk_of self.old) (disk_of self.new) result }
+        ensures states { StepsAt D.Disk (layout_of self.old) cell closing (disk_of self.old) (disk_of self.new) result }
     {
         self.write_gate(cell, CLOSED)
     }
@@ -130,11 +130,11 @@ impl<D: Disk> Cells<D> {
     pub fn write_area(&mut self, area: Place, body: &[u8]) -> Result<(), DiskFault>
         requires area { IsArea (layout_of self.old) area }
         requires size { length body.now ≡ body_len area }
-        ensures call { IsCall D.size D.failures D.honest (disk_of self.old) (disk_of self.new) result }
+        ensures call { Calls D.Disk (disk_of self.old) (disk_of self.new) result }
         ensures layout { layout_of self.new ≡ layout_of self.old }
-        ensures written { WritesOnly D.honest D.history (offset_of (layout_of self.old) area) body.now (disk_of self.old) (disk_of self.new) result }
-        ensures inside { WritesIn D.honest D.history (layout_of self.old) area (disk_of self.old) (disk_of self.new) result }
-        ensures states { StepsAt D.honest D.history (layout_of self.old) area (writing body.now) (disk_of self.old) (disk_of self.new) result }
+        ensures written { WritesOnly D.Disk (offset_of (layout_of self.old) area) body.now (disk_of self.old) (disk_of self.new) result }
+        ensures inside { WritesIn D.Disk (layout_of self.old) area (disk_of self.old) (disk_of self.new) result }
+        ensures states { StepsAt D.Disk (layout_of self.old) area (writing body.now) (disk_of self.old) (disk_of self.new) result }
     {
         self.disk.write_at(self.layout.offset(area), body)
     }
@@ -142,11 +142,11 @@ impl<D: Disk> Cells<D> {
     /// Makes all that was written stable. The first sync on a device of unknown past leaves each
     /// place in the state that its bytes show.
     pub fn sync(&mut self) -> Result<(), DiskFault>
-        ensures call { IsCall D.size D.failures D.honest (disk_of self.old) (disk_of self.new) result }
+        ensures call { Calls D.Disk (disk_of self.old) (disk_of self.new) result }
         ensures layout { layout_of self.new ≡ layout_of self.old }
         ensures synced { D.honest (disk_of self.old) → OnOk result (D.history (disk_of self.new) ≡ Synced (D.history (disk_of self.old))) }
         ensures unsynced { D.honest (disk_of self.old) → OnErr result (D.history (disk_of self.new) ≡ D.history (disk_of self.old)) }
-        ensures states { Settles D.honest D.history (layout_of self.old) (disk_of self.old) (disk_of self.new) result }
+        ensures states { Settles D.Disk (layout_of self.old) (disk_of self.old) (disk_of self.new) result }
         ensures found { D.honest (disk_of self.old) → OnOk result (Assigns (layout_of self.old) (D.history (disk_of self.new)) (found (layout_of self.old) (seen (D.history (disk_of self.old))))) }
     {
         self.disk.sync()
@@ -161,12 +161,12 @@ impl<D: Disk> Cells<D> {
     ) -> Result<Option<&'a [u8]>, DiskFault>
         requires cell { IsCell (layout_of self.old) cell }
         requires room { length room.old ≡ body_len cell }
-        ensures call { IsCall D.size D.failures D.honest (disk_of self.old) (disk_of self.new) result }
+        ensures call { Calls D.Disk (disk_of self.old) (disk_of self.new) result }
         ensures layout { layout_of self.new ≡ layout_of self.old }
-        ensures same { D.honest (disk_of self.old) → D.history (disk_of self.new) ≡ D.history (disk_of self.old) }
+        ensures same { SameHistory D.Disk (disk_of self.old) (disk_of self.new) }
         ensures size { IfOk result (λ found. IfSome found (λ bytes. length bytes.now ≡ body_len cell)) }
-        ensures read { ReadsPlace D.honest D.history (layout_of self.old) cell (disk_of self.old) result (option_map (λ bytes. bytes.now)) }
-        ensures shown { ShowsPlace D.honest D.history (layout_of self.old) cell (disk_of self.old) result (option_map (λ bytes. bytes.now)) }
+        ensures read { ReadsPlace D.Disk (layout_of self.old) cell (disk_of self.old) result (option_map (λ bytes. bytes.now)) }
+        ensures shown { ShowsPlace D.Disk (layout_of self.old) cell (disk_of self.old) result (option_map (λ bytes. bytes.now)) }
     {
         let mut first = [0; 1];
         self.disk.read_at(self.layout.gate(cell), &mut first)?;
@@ -182,11 +182,11 @@ impl<D: Disk> Cells<D> {
     pub fn read_body(&mut self, place: Place, room: &mut [u8]) -> Result<(), DiskFault>
         requires place { IsPlace (layout_of self.old) place }
         requires room { length room.old ≡ body_len place }
-        ensures call { IsCall D.size D.failures D.honest (disk_of self.old) (disk_of self.new) result }
+        ensures call { Calls D.Disk (disk_of self.old) (disk_of self.new) result }
         ensures layout { layout_of self.new ≡ layout_of self.old }
-        ensures same { D.honest (disk_of self.old) → D.history (disk_of self.new) ≡ D.history (disk_of self.old) }
-        ensures read { ReadsBody D.honest D.history (layout_of self.old) place (disk_of self.old) result room.new }
-        ensures opened { ReadsOpened D.honest D.history (layout_of self.old) place (disk_of self.old) result room.new }
+        ensures same { SameHistory D.Disk (disk_of self.old) (disk_of self.new) }
+        ensures read { ReadsBody D.Disk (layout_of self.old) place (disk_of self.old) result room.new }
+        ensures opened { ReadsOpened D.Disk (layout_of self.old) place (disk_of self.old) result room.new }
     {
         self.disk.read_at(self.layout.offset(place), room)
     }
@@ -195,11 +195,11 @@ impl<D: Disk> Cells<D> {
     pub fn read_area(&mut self, area: Place, room: &mut [u8]) -> Result<(), DiskFault>
         requires area { IsArea (layout_of self.old) area }
         requires room { length room.old ≡ body_len area }
-        ensures call { IsCall D.size D.failures D.honest (disk_of self.old) (disk_of self.new) result }
+        ensures call { Calls D.Disk (disk_of self.old) (disk_of self.new) result }
         ensures layout { layout_of self.new ≡ layout_of self.old }
-        ensures same { D.honest (disk_of self.old) → D.history (disk_of self.new) ≡ D.history (disk_of self.old) }
-        ensures read { ReadsPlace D.honest D.history (layout_of self.old) area (disk_of self.old) result (λ _. Some room.new) }
-        ensures shown { ShowsPlace D.honest D.history (layout_of self.old) area (disk_of self.old) result (λ _. Some room.new) }
+        ensures same { SameHistory D.Disk (disk_of self.old) (disk_of self.new) }
+        ensures read { ReadsPlace D.Disk (layout_of self.old) area (disk_of self.old) result (λ _. Some room.new) }
+        ensures shown { ShowsPlace D.Disk (layout_of self.old) area (disk_of self.old) result (λ _. Some room.new) }
     {
         self.read_body(area, room)
     }

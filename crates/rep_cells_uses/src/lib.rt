@@ -4,7 +4,7 @@
 
 ghost use Rattle.std.specs.Prelude.{◌≡◌, ◌≤◌, ◌⊎◌, ℕ, List, length, OnOk};
 ghost use Rattle.rep_disk.specs.History.{seen};
-ghost use Rattle.rep_disk.specs.Calls.{IsCall};
+ghost use Rattle.rep_disk.specs.Devices.{Calls};
 ghost use Rattle.rep_layout.specs.declared.place.Layout.{Layout};
 ghost use Rattle.rep_layout.specs.Places.{body_len, need_of};
 ghost use Rattle.rep_cells.specs.Device.{disk_of, layout_of};
@@ -23,7 +23,7 @@ pub fn publish<D: Disk>(cells: &mut Cells<D>, cell: Place, body: &[u8]) -> Resul
     requires cell { IsCell (layout_of cells.old) cell }
     requires size { length body.now ≡ body_len cell }
     ensures layout { layout_of cells.new ≡ layout_of cells.old }
-    ensures call { IsCall D.size D.failures D.honest (disk_of cells.old) (disk_of cells.new) result }
+    ensures call { Calls D.Disk (disk_of cells.old) (disk_of cells.new) result }
     ensures published { D.honest (disk_of cells.old) → (s : States) → Assigns (layout_of cells.old) (D.history (disk_of cells.old)) s → s cell ≡ Closed → Publishes (layout_of cells.old) (D.history (disk_of cells.old)) (D.history (disk_of cells.new)) s cell body.now (λ one. one ≡ body.now) result }
 {
     cells.fill(cell, body)?;
@@ -38,7 +38,7 @@ pub fn replace<D: Disk>(cells: &mut Cells<D>, cell: Place, body: &[u8]) -> Resul
     requires cell { IsCell (layout_of cells.old) cell }
     requires size { length body.now ≡ body_len cell }
     ensures layout { layout_of cells.new ≡ layout_of cells.old }
-    ensures call { IsCall D.size D.failures D.honest (disk_of cells.old) (disk_of cells.new) result }
+    ensures call { Calls D.Disk (disk_of cells.old) (disk_of cells.new) result }
     ensures published { D.honest (disk_of cells.old) → (s : States) → (before : List ℕ) → Assigns (layout_of cells.old) (D.history (disk_of cells.old)) s → s cell ≡ Opened before → Publishes (layout_of cells.old) (D.history (disk_of cells.old)) (D.history (disk_of cells.new)) s cell body.now (λ one. (one ≡ before) ⊎ (one ≡ body.now)) result }
 {
     cells.close_gate(cell)?;
@@ -50,7 +50,7 @@ pub fn replace<D: Disk>(cells: &mut Cells<D>, cell: Place, body: &[u8]) -> Resul
 pub fn clear<D: Disk>(cells: &mut Cells<D>, stale: Place) -> Result<(), DiskFault>
     requires { IsCell (layout_of cells.old) stale }
     ensures layout { layout_of cells.new ≡ layout_of cells.old }
-    ensures call { IsCall D.size D.failures D.honest (disk_of cells.old) (disk_of cells.new) result }
+    ensures call { Calls D.Disk (disk_of cells.old) (disk_of cells.new) result }
     ensures cleared { D.honest (disk_of cells.old) → (s : States) → Assigns (layout_of cells.old) (D.history (disk_of cells.old)) s → OnOk result (IsCleared (layout_of cells.old) (D.history (disk_of cells.new)) s stale) }
 {
     syncs_narrow();
@@ -62,7 +62,7 @@ pub fn clear<D: Disk>(cells: &mut Cells<D>, stale: Place) -> Result<(), DiskFaul
 /// every layout that the device has room for.
 pub fn take_up<D: Disk>(cells: &mut Cells<D>) -> Result<(), DiskFault>
     ensures layout { layout_of cells.new ≡ layout_of cells.old }
-    ensures call { IsCall D.size D.failures D.honest (disk_of cells.old) (disk_of cells.new) result }
+    ensures call { Calls D.Disk (disk_of cells.old) (disk_of cells.new) result }
     ensures found { D.honest (disk_of cells.old) → OnOk result ((l : Layout) → need_of l ≤ D.size (disk_of cells.old) → Assigns l (D.history (disk_of cells.new)) (found l (seen (D.history (disk_of cells.old))))) }
 {
     cells.sync()?;

@@ -3,7 +3,7 @@ use Rattle.std.proofs.Common.{◌≡◌, ap, ◌∙◌, ℕ, Result, OnOk, OnErr
 use Rattle.rep_types.specs.declared.refusal.Refusal.{Refusal}
 use Rattle.rep_types.specs.declared.refusal.Refusal.TheVariants.{DiskFault}
 use Rattle.rep_types.specs.Order.{State}
-use Rattle.rep_disk.specs.History.{History}
+use Rattle.rep_disk.specs.declared.disk.Disk.{Ghosts}
 use Rattle.rep_disk.specs.declared.disk.DiskFault.{DiskFault as Fault}
 use Rattle.rep_layout.specs.declared.super_body.SuperBody.{SuperBody}
 use Rattle.rep_layout.specs.declared.place.Layout.{Layout}
@@ -45,10 +45,10 @@ goes size base next SuperOpening x y s t due is moves = absurd due
 
 -- as the call makes it
 pub goes_next :
-    {D : Type 0} (honest : D → Type 0) (history : D → History) (l : Layout) (base : SuperBody) (before after : Coming) (old new : D) (answer : Result (Unit {0}) Fault) (result : Result (Unit {0}) Refusal)
+    {D : Type 0} (g : Ghosts D) (l : Layout) (base : SuperBody) (before after : Coming) (old new : D) (answer : Result (Unit {0}) Fault) (result : Result (Unit {0}) Refusal)
     → IsDue before.part → fault_of result ≡ answer → OnOk result (after ≡ gone before) → OnErr result (after ≡ before) → IfErr result (λ e. e ≡ DiskFault)
-    → WritesOnly honest history (next_offset l base (Toward before.next before.part)) (next_bytes (Toward before.next before.part)) old new answer → WritesIn honest history l (next_place base (Toward before.next before.part)) old new answer
-    → StepsAt honest history l (next_place base (Toward before.next before.part)) (next_step (Toward before.next before.part)) old new answer → InstallsNext honest history l base before after old new result
-goes_next honest history l base before after old new answer result due fault done failed only written inside steps =
-    let w = writes_stage honest history l base (Toward before.next before.part) old new answer result fault only written inside steps in
+    → WritesOnly g (next_offset l base (Toward before.next before.part)) (next_bytes (Toward before.next before.part)) old new answer → WritesIn g l (next_place base (Toward before.next before.part)) old new answer
+    → StepsAt g l (next_place base (Toward before.next before.part)) (next_step (Toward before.next before.part)) old new answer → InstallsNext g l base before after old new result
+goes_next g l base before after old new answer result due fault done failed only written inside steps =
+    let w = writes_stage g l base (Toward before.next before.part) old new answer result fault only written inside steps in
     record { done = done; fault = failed; written = w.written; inside = w.inside; steps = λ h size s x y assigns is. w.steps h s assigns _ (λ t moves. goes size base before.next before.part x y s t due is moves) }

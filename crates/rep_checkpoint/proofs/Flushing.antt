@@ -5,7 +5,7 @@ use Rattle.rep_types.specs.declared.refusal.Refusal.{Refusal}
 use Rattle.rep_types.specs.declared.refusal.Refusal.TheVariants.{NotDue, DiskFault, Corrupt}
 use Rattle.rep_types.specs.declared.refusal.Part.TheVariants.{Pages}
 use Rattle.rep_types.specs.Order.{State}
-use Rattle.rep_disk.specs.History.{History}
+use Rattle.rep_disk.specs.declared.disk.Disk.{Ghosts}
 use Rattle.rep_layout.specs.declared.super_body.SuperBody.{SuperBody}
 use Rattle.rep_layout.specs.declared.page_state.PageState.TheVariants.{In}
 use Rattle.rep_layout.specs.declared.place.Layout.{Layout}
@@ -136,10 +136,10 @@ after_ok (Ok x) P Q f h = f h
 after_ok (Err e) P Q f h = tt
 
 pub flushes :
-    {D : Type 0} (honest : D → Type 0) (history : D → History) (l : Layout) (kept : Kept) (page : ℕ) (c after : Standing) (position : ℕ) (old new : D) (result : Result (Unit {0}) Refusal)
-    → flush_refusal l c page ≡ None → position ≡ position_in c.stage → OnOk result (after ≡ flushed page c) → IfErr result (λ e. ((e ≡ DiskFault) ⊎ (e ≡ Corrupt Pages)) × (after ≡ c)) → MovesPage honest history l c.base kept position page old new result
-    → Flushes honest history l kept page c after old new result
-flushes {D} honest history l kept page c after position old new result due position_is done failed moves =
+    {D : Type 0} (g : Ghosts D) (l : Layout) (kept : Kept) (page : ℕ) (c after : Standing) (position : ℕ) (old new : D) (result : Result (Unit {0}) Refusal)
+    → flush_refusal l c page ≡ None → position ≡ position_in c.stage → OnOk result (after ≡ flushed page c) → IfErr result (λ e. ((e ≡ DiskFault) ⊎ (e ≡ Corrupt Pages)) × (after ≡ c)) → MovesPage g l c.base kept position page old new result
+    → Flushes g l kept page c after old new result
+flushes {D} g l kept page c after position old new result due position_is done failed moves =
     let left = left_of l c page due in
     let next = left.next in
     let at : position ≡ next.super.position = position_is ∙ ap position_in left.stage_is in
@@ -165,5 +165,5 @@ flushes {D} honest history l kept page c after position old new result due posit
             reaches = put.reaches;
           };
       whole = λ h size s x y assigns is. moves.whole h s x.content assigns is.base.content;
-      spelled = λ h readable. subst (λ p. FlushesAsSpelled l c.base kept p page (history old) (history new) result) position_is (moves.spelled h readable);
+      spelled = λ h readable. subst (λ p. FlushesAsSpelled l c.base kept p page (g.history old) (g.history new) result) position_is (moves.spelled h readable);
     }

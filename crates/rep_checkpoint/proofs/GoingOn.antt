@@ -3,6 +3,7 @@ use Rattle.std.proofs.Common.{◌≡◌, ◌≢◌, refl, sym, ap, subst, ◌∙
 use Rattle.rep_types.specs.declared.refusal.Refusal.{Refusal}
 use Rattle.rep_types.specs.declared.refusal.Refusal.TheVariants.{NotDue, DiskFault}
 use Rattle.rep_types.specs.Order.{State}
+use Rattle.rep_disk.specs.declared.disk.Disk.{Ghosts}
 use Rattle.rep_disk.specs.History.{History}
 use Rattle.rep_disk.specs.declared.disk.DiskFault.{DiskFault as Fault}
 use Rattle.rep_layout.specs.declared.super_body.SuperBody.{SuperBody}
@@ -128,21 +129,21 @@ here l c refusal e = by (is_layout l _) e
 
 -- What the write that comes next did, as it is answered: it is of these bytes alone, in that place; and what stands in the states that
 -- it makes of those before it stands so during the call and after it.
-pub record WritesStage {D : Type 0} (honest : D → Type 0) (history : D → History) (l : Layout) (base : SuperBody) (stage : Stage) (old new : D) (result : Result (Unit {0}) Refusal) : Type 1 where
-  pub written : WritesOnly honest history (next_offset l base stage) (next_bytes stage) old new result
-  pub inside : WritesIn honest history l (next_place base stage) old new result
-  pub steps : honest old → (s : States) → Assigns l (history old) s → (Stands : States → Type 0) → ((t : States) → Moves s t (next_place base stage) (next_step stage) → Stands t) → StepsTo l (history old) (history new) s Stands Stands result
+pub record WritesStage {D : Type 0} (g : Ghosts D) (l : Layout) (base : SuperBody) (stage : Stage) (old new : D) (result : Result (Unit {0}) Refusal) : Type 1 where
+  pub written : WritesOnly g (next_offset l base stage) (next_bytes stage) old new result
+  pub inside : WritesIn g l (next_place base stage) old new result
+  pub steps : g.honest old → (s : States) → Assigns l (g.history old) s → (Stands : States → Type 0) → ((t : States) → Moves s t (next_place base stage) (next_step stage) → Stands t) → StepsTo l (g.history old) (g.history new) s Stands Stands result
 
 pub writes_stage :
-    {D : Type 0} (honest : D → Type 0) (history : D → History) (l : Layout) (base : SuperBody) (stage : Stage) (old new : D) (answer : Result (Unit {0}) Fault) (result : Result (Unit {0}) Refusal) → fault_of result ≡ answer → IfErr result (λ e. e ≡ DiskFault)
-    → WritesOnly honest history (next_offset l base stage) (next_bytes stage) old new answer → WritesIn honest history l (next_place base stage) old new answer → StepsAt honest history l (next_place base stage) (next_step stage) old new answer
-    → WritesStage honest history l base stage old new result
-writes_stage honest history l base stage old new answer result fault only written inside steps =
-    let wrote = subst (λ (r : Result (Unit {0}) Fault). WritesOnly honest history (next_offset l base stage) (next_bytes stage) old new r) (sym fault) written in
-    let wrote_in = subst (λ (r : Result (Unit {0}) Fault). WritesIn honest history l (next_place base stage) old new r) (sym fault) inside in
-    let stepped = subst (λ (r : Result (Unit {0}) Fault). StepsAt honest history l (next_place base stage) (next_step stage) old new r) (sym fault) steps in
+    {D : Type 0} (g : Ghosts D) (l : Layout) (base : SuperBody) (stage : Stage) (old new : D) (answer : Result (Unit {0}) Fault) (result : Result (Unit {0}) Refusal) → fault_of result ≡ answer → IfErr result (λ e. e ≡ DiskFault)
+    → WritesOnly g (next_offset l base stage) (next_bytes stage) old new answer → WritesIn g l (next_place base stage) old new answer → StepsAt g l (next_place base stage) (next_step stage) old new answer
+    → WritesStage g l base stage old new result
+writes_stage g l base stage old new answer result fault only written inside steps =
+    let wrote = subst (λ (r : Result (Unit {0}) Fault). WritesOnly g (next_offset l base stage) (next_bytes stage) old new r) (sym fault) written in
+    let wrote_in = subst (λ (r : Result (Unit {0}) Fault). WritesIn g l (next_place base stage) old new r) (sym fault) inside in
+    let stepped = subst (λ (r : Result (Unit {0}) Fault). StepsAt g l (next_place base stage) (next_step stage) old new r) (sym fault) steps in
     record {
-      written = λ h. writes_as (next_offset l base stage) (next_bytes stage) (history old) (history new) result only (wrote h);
+      written = λ h. writes_as (next_offset l base stage) (next_bytes stage) (g.history old) (g.history new) result only (wrote h);
       inside = λ h. ok_as result _ (wrote_in h);
       steps = λ h s assigns Stands stand.
           let step = stepped h s assigns in
@@ -152,15 +153,15 @@ writes_stage honest history l base stage old new answer result fault only writte
             elsewhere = λ i. step.moves.elsewhere (Log i) (no_log base stage i);
             during_is = stands;
             after_is = if_ok result _ stands;
-            reaches = reaches_as l (history old) (history new) step.after step.after result step.reaches;
+            reaches = reaches_as l (g.history old) (g.history new) step.after step.after result step.reaches;
           };
     }
 
 pub goes_on :
-    {D : Type 0} (honest : D → Type 0) (history : D → History) (l : Layout) (c after : Standing) (old new : D) (answer : Result (Unit {0}) Fault) (result : Result (Unit {0}) Refusal)
+    {D : Type 0} (g : Ghosts D) (l : Layout) (c after : Standing) (old new : D) (answer : Result (Unit {0}) Fault) (result : Result (Unit {0}) Refusal)
     → next_refusal l c ≡ None → fault_of result ≡ answer → OnOk result (after ≡ gone_on c) → IfErr result (λ e. (e ≡ DiskFault) × (after ≡ c)) → IfErr result (λ e. e ≡ DiskFault)
-    → WritesOnly honest history (next_offset l c.base c.stage) (next_bytes c.stage) old new answer → WritesIn honest history l (next_place c.base c.stage) old new answer → StepsAt honest history l (next_place c.base c.stage) (next_step c.stage) old new answer
-    → GoesOn honest history l c after old new result
-goes_on honest history l c after old new answer result due fault done failed only written inside steps =
-    let w = writes_stage honest history l c.base c.stage old new answer result fault only written inside steps in
+    → WritesOnly g (next_offset l c.base c.stage) (next_bytes c.stage) old new answer → WritesIn g l (next_place c.base c.stage) old new answer → StepsAt g l (next_place c.base c.stage) (next_step c.stage) old new answer
+    → GoesOn g l c after old new result
+goes_on g l c after old new answer result due fault done failed only written inside steps =
+    let w = writes_stage g l c.base c.stage old new answer result fault only written inside steps in
     record { done = done; fault = failed; written = w.written; inside = w.inside; steps = λ h size s x y assigns is. w.steps h s assigns _ (λ t moves. gone size c.base c.stage x y s t (here l c _ due) is moves) }

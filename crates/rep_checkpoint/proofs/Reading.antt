@@ -5,6 +5,7 @@ use Rattle.rep_types.specs.declared.key.Key.{Key}
 use Rattle.rep_types.specs.declared.refusal.Refusal.{Refusal}
 use Rattle.rep_types.specs.declared.refusal.Refusal.TheVariants.{DiskFault, Corrupt}
 use Rattle.rep_types.specs.declared.refusal.Part.TheVariants.{Pages}
+use Rattle.rep_disk.specs.declared.disk.Disk.{Ghosts}
 use Rattle.rep_disk.specs.History.{History, Wrote, seen, IsImage as IsImageOf}
 use Rattle.rep_disk.specs.Moments.{LeavesOnly}
 use Rattle.rep_layout.specs.declared.super_body.SuperBody.{SuperBody}
@@ -70,9 +71,9 @@ same_moments h = record { later = omega arith; since = λ t image le since. inl 
 
 -- it wasn't read
 pub not_read :
-    {D : Type 0} → ImagesReadAsAllowed → StableBasesAreRead → (honest : D → Type 0) (history : D → History) (l : Layout) (b : SuperBody) (kept : Kept) (position number : ℕ) (old new : D) (pool : Pooled) (result : Result PageBody Refusal) (e : Refusal)
-    → IsSuper b → l ≡ layout_of b.params → IsPooled honest history b.params.rows l old pool → (honest old → history new ≡ history old) → GivesPage honest history l b number old pool result → result ≡ Err e → MovesPage {T = Unit {0}} honest history l b kept position number old new (Err e)
-not_read allowed stable_base honest history l b kept position number old new pool result e super here pooled same gives is = record {
+    {D : Type 0} → ImagesReadAsAllowed → StableBasesAreRead → (g : Ghosts D) (l : Layout) (b : SuperBody) (kept : Kept) (position number : ℕ) (old new : D) (pool : Pooled) (result : Result PageBody Refusal) (e : Refusal)
+    → IsSuper b → l ≡ layout_of b.params → IsPooled g b.params.rows l old pool → (g.honest old → g.history new ≡ g.history old) → GivesPage g l b number old pool result → result ≡ Err e → MovesPage {T = Unit {0}} g l b kept position number old new (Err e)
+not_read allowed stable_base g l b kept position number old new pool result e super here pooled same gives is = record {
   written = λ h. record { bytes = replicate 4096 0; size = length-replicate {A = ℕ} 4096 0; writes = record { done = tt; failed = inl (same h) } };
   puts = λ h s x y assigns have at. record {
     states = s;
@@ -80,11 +81,11 @@ not_read allowed stable_base honest history l b kept position number old new poo
     there = tt;
     reaches = record {
       ok = tt;
-      images = λ image stands. allowed l (history old) s image assigns (subst (λ (k : History). IsImageOf k image) (same h) stands);
-      moments = subst (λ (k : History). LeavesOnly (history old) k (IsImageOf k)) (sym (same h)) (same_moments (history old));
+      images = λ image stands. allowed l (g.history old) s image assigns (subst (λ (k : History). IsImageOf k image) (same h) stands);
+      moments = subst (λ (k : History). LeavesOnly (g.history old) k (IsImageOf k)) (sym (same h)) (same_moments (g.history old));
     };
   };
-  whole = λ h s content assigns have f. stable_base.whole l (history old) b s content number super here assigns have ((gives h (pooled h)).corrupt (is ∙ ap Err (same_error f)));
+  whole = λ h s content assigns have f. stable_base.whole l (g.history old) b s content number super here assigns have ((gives h (pooled h)).corrupt (is ∙ ap Err (same_error f)));
   spelled = λ h readable. record {
     done = tt;
     bad = λ bad. refl;
@@ -120,33 +121,33 @@ never_corrupt (Ok x) only e = absurd cc
 never_corrupt (Err e) only f = absurd cc
 
 pub moved :
-    {D : Type 0} → StableBasesAreRead → (honest : D → Type 0) (history : D → History) (l : Layout) (b : SuperBody) (kept : Kept) (position number : ℕ) (old mid new : D) (pool : Pooled) (read : Result PageBody Refusal) (was page : PageBody) (result : Result (Unit {0}) Refusal)
-    → IsSuper b → l ≡ layout_of b.params → IsPooled honest history b.params.rows l old pool → (honest old → honest mid) → (honest old → history mid ≡ history old) → was.number ≡ number → GivesPage honest history l b number old pool read → read ≡ Ok was → IsImage b.params.rows kept position was page
-    → PutsPage honest history l b page (spare_slot (state_of_page b page.number)) mid new (fault_of result) → IfErr result (λ e. e ≡ DiskFault) → MovesPage honest history l b kept position number old new result
-moved {D} stable_base honest history l b kept position number old mid new pool read was page result super here pooled stays same is_it gives is image puts only =
+    {D : Type 0} → StableBasesAreRead → (g : Ghosts D) (l : Layout) (b : SuperBody) (kept : Kept) (position number : ℕ) (old mid new : D) (pool : Pooled) (read : Result PageBody Refusal) (was page : PageBody) (result : Result (Unit {0}) Refusal)
+    → IsSuper b → l ≡ layout_of b.params → IsPooled g b.params.rows l old pool → (g.honest old → g.honest mid) → (g.honest old → g.history mid ≡ g.history old) → was.number ≡ number → GivesPage g l b number old pool read → read ≡ Ok was → IsImage b.params.rows kept position was page
+    → PutsPage g l b page (spare_slot (state_of_page b page.number)) mid new (fault_of result) → IfErr result (λ e. e ≡ DiskFault) → MovesPage g l b kept position number old new result
+moved {D} stable_base g l b kept position number old mid new pool read was page result super here pooled stays same is_it gives is image puts only =
     let number_is : page.number ≡ number = image.number ∙ is_it in
-    let has : honest old → HasPage (reading_of l (seen (history old))) b number was = λ h.
-    subst (λ (r : Result PageBody Refusal). IfOk r (HasPage (reading_of l (seen (history old))) b number)) is (gives h (pooled h)).page in
-    let written = subst (λ n. WritesOnly honest history (offset_of l (Page n (spare_slot (state_of_page b n)))) puts.bytes mid new (fault_of result)) number_is puts.written in
-    let states = subst (λ n. StepsAt honest history l (Page n (spare_slot (state_of_page b n))) (writing puts.bytes) mid new (fault_of result)) number_is puts.states in
-    let wrote : honest old → Writes (offset_of l (Page number (spare_slot (state_of_page b number)))) puts.bytes (history old) (history new) result = λ h.
-    let w = subst (λ (k : History). Writes (offset_of l (Page number (spare_slot (state_of_page b number)))) puts.bytes k (history new) (fault_of result)) (same h) (written (stays h)) in
-    writes_as (offset_of l (Page number (spare_slot (state_of_page b number)))) puts.bytes (history old) (history new) result only w in
+    let has : g.honest old → HasPage (reading_of l (seen (g.history old))) b number was = λ h.
+    subst (λ (r : Result PageBody Refusal). IfOk r (HasPage (reading_of l (seen (g.history old))) b number)) is (gives h (pooled h)).page in
+    let written = subst (λ n. WritesOnly g (offset_of l (Page n (spare_slot (state_of_page b n)))) puts.bytes mid new (fault_of result)) number_is puts.written in
+    let states = subst (λ n. StepsAt g l (Page n (spare_slot (state_of_page b n))) (writing puts.bytes) mid new (fault_of result)) number_is puts.states in
+    let wrote : g.honest old → Writes (offset_of l (Page number (spare_slot (state_of_page b number)))) puts.bytes (g.history old) (g.history new) result = λ h.
+    let w = subst (λ (k : History). Writes (offset_of l (Page number (spare_slot (state_of_page b number)))) puts.bytes k (g.history new) (fault_of result)) (same h) (written (stays h)) in
+    writes_as (offset_of l (Page number (spare_slot (state_of_page b number)))) puts.bytes (g.history old) (g.history new) result only w in
     record {
       written = λ h. record { bytes = puts.bytes; size = puts.size; writes = wrote h };
       puts = λ h s x y assigns have at.
-          let step = subst (λ (k : History). Stepped l k (history new) s (Page number (spare_slot (state_of_page b number))) (writing puts.bytes) (fault_of result)) (same h) (states (stays h) s (subst (λ (k : History). Assigns l k s) (sym (same h)) assigns)) in
+          let step = subst (λ (k : History). Stepped l k (g.history new) s (Page number (spare_slot (state_of_page b number))) (writing puts.bytes) (fault_of result)) (same h) (states (stays h) s (subst (λ (k : History). Assigns l k s) (sym (same h)) assigns)) in
           record {
             states = step.after;
             elsewhere = step.moves.elsewhere;
-            there = all_ok result (puts.bytes, step.moves.there, page_at b kept position number x y was page puts.bytes is_it (stable_base.rows l (history old) b s x number was super here assigns have (has h)) at image puts.is_page);
-            reaches = reaches_as l (history old) (history new) step.after step.after result step.reaches;
+            there = all_ok result (puts.bytes, step.moves.there, page_at b kept position number x y was page puts.bytes is_it (stable_base.rows l (g.history old) b s x number was super here assigns have (has h)) at image puts.is_page);
+            reaches = reaches_as l (g.history old) (g.history new) step.after step.after result step.reaches;
           };
       whole = λ h s content assigns have. never_corrupt result only;
       spelled = λ h readable. record {
-        done = then_ok result (history new ≡ Wrote (offset_of l (Page number (spare_slot (state_of_page b number)))) puts.bytes (history old)) (WritesImage l b kept position number (history old) (history new))
+        done = then_ok result (g.history new ≡ Wrote (offset_of l (Page number (spare_slot (state_of_page b number)))) puts.bytes (g.history old)) (WritesImage l b kept position number (g.history old) (g.history new))
             (λ is_written. record { was = was; has = has h; page = page; image = image; bytes = puts.bytes; spelled = puts.is_page; written = is_written }) (wrote h).done;
-        bad = λ bad. absurd (not_bad (reading_of l (seen (history old))) b number was (has h) bad);
+        bad = λ bad. absurd (not_bad (reading_of l (seen (g.history old))) b number was (has h) bad);
         corrupt = λ e. absurd (never_corrupt result only e);
       };
     }
@@ -163,9 +164,9 @@ moved {D} stable_base honest history l b kept position number old mid new pool r
 
 -- a pool that a page was taken of agrees with the device behind the page's write
 pub written_agrees :
-    {D : Type 0} → PoolsGoOn → (honest : D → Type 0) (history : D → History) (rows : List ℕ) (l : Layout) (old mid new : D) (before after : Pooled) (number : ℕ) (place : Place) (slot : Slot) (result : Result (Unit {0}) Refusal)
-    → (honest new → honest mid) → GoesOn honest history rows l old mid before after → IsFree (Page number slot) after → place ≡ Page number slot → WritesIn honest history l place mid new (fault_of result) → IfErr result (λ e. e ≡ DiskFault)
-    → GoesOnIf honest history rows l old new before after result
-written_agrees go honest history rows l old mid new before after number place slot (Ok x) was goes free at inside only = λ no pooled h.
-    go.written rows l (history mid) (history new) after place (inside (was h)) (subst (λ (p : Place). IsFree p after) (sym at) free) (goes pooled (was h))
-written_agrees go honest history rows l old mid new before after number place slot (Err e) was goes free at inside only = λ no pooled h. absurd (no (ap Err only))
+    {D : Type 0} → PoolsGoOn → (g : Ghosts D) (rows : List ℕ) (l : Layout) (old mid new : D) (before after : Pooled) (number : ℕ) (place : Place) (slot : Slot) (result : Result (Unit {0}) Refusal)
+    → (g.honest new → g.honest mid) → GoesOn g rows l old mid before after → IsFree (Page number slot) after → place ≡ Page number slot → WritesIn g l place mid new (fault_of result) → IfErr result (λ e. e ≡ DiskFault)
+    → GoesOnIf g rows l old new before after result
+written_agrees go g rows l old mid new before after number place slot (Ok x) was goes free at inside only = λ no pooled h.
+    go.written rows l (g.history mid) (g.history new) after place (inside (was h)) (subst (λ (p : Place). IsFree p after) (sym at) free) (goes pooled (was h))
+written_agrees go g rows l old mid new before after number place slot (Err e) was goes free at inside only = λ no pooled h. absurd (no (ap Err only))

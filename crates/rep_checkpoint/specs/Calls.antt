@@ -6,6 +6,7 @@ use Rattle.rep_types.specs.declared.refusal.Refusal.TheVariants.{DiskFault, Corr
 use Rattle.rep_types.specs.declared.refusal.Part.TheVariants.{Pages}
 use Rattle.rep_types.specs.Settings.{IsRow}
 use Rattle.rep_types.specs.Order.{State}
+use Rattle.rep_disk.specs.declared.disk.Disk.{Ghosts}
 use Rattle.rep_disk.specs.History.{History, Wrote, seen}
 use Rattle.rep_layout.specs.declared.super_body.SuperBody.{SuperBody}
 use Rattle.rep_layout.specs.declared.place.Layout.{Layout}
@@ -98,13 +99,13 @@ pub record IsRefused {D T : Type 0} (e : Refusal) (before after : Standing) (old
 -- The write that comes next: of exactly these bytes at this offset, in that place. The checkpoint stands behind it where it succeeds, and otherwise
 -- the device failed, and the checkpoint stands as it did. On an honest device it stands behind it during the call too, and in all
 -- that a stop or the failure leaves.
-pub record GoesOn {D T : Type 0} (honest : D → Type 0) (history : D → History) (l : Layout) (before after : Standing) (old new : D) (result : Result T Refusal) : Type 0 where
+pub record GoesOn {D T : Type 0} (g : Ghosts D) (l : Layout) (before after : Standing) (old new : D) (result : Result T Refusal) : Type 0 where
   pub done : OnOk result (after ≡ gone_on before)
   pub fault : IfErr result (λ e. (e ≡ DiskFault) × (after ≡ before))
-  pub written : WritesOnly honest history (next_offset l before.base before.stage) (next_bytes before.stage) old new result
-  pub inside : WritesIn honest history l (next_place before.base before.stage) old new result
-  pub steps : honest old → (size : ℕ) (s : States) (x y : State) → Assigns l (history old) s → CheckpointIs size before x y s
-      → Steps size l (history old) (history new) s (gone_on before) (gone_on before) x y result
+  pub written : WritesOnly g (next_offset l before.base before.stage) (next_bytes before.stage) old new result
+  pub inside : WritesIn g l (next_place before.base before.stage) old new result
+  pub steps : g.honest old → (size : ℕ) (s : States) (x y : State) → Assigns l (g.history old) s → CheckpointIs size before x y s
+      → Steps size l (g.history old) (g.history new) s (gone_on before) (gone_on before) x y result
 
 -- ---- flushing
 
@@ -135,14 +136,14 @@ pub record FlushesAsSpelled {T : Type 0} (l : Layout) (b : SuperBody) (kept : Ke
 -- stands behind that where it succeeds, and otherwise as it did: the device failed, or the base's page isn't of the form. On an
 -- honest device it stands as it did during the call and in all that a stop or the failure leaves, and its base's page is of the form.
 -- Whatever stands there, the bytes decide where no write failed in the base's slot.
-pub record Flushes {D T : Type 0} (honest : D → Type 0) (history : D → History) (l : Layout) (kept : Kept) (page : ℕ) (before after : Standing) (old new : D) (result : Result T Refusal) : Type 0 where
+pub record Flushes {D T : Type 0} (g : Ghosts D) (l : Layout) (kept : Kept) (page : ℕ) (before after : Standing) (old new : D) (result : Result T Refusal) : Type 0 where
   pub done : OnOk result (after ≡ flushed page before)
   pub fault : IfErr result (λ e. ((e ≡ DiskFault) ⊎ (e ≡ Corrupt Pages)) × (after ≡ before))
-  pub written : honest old → WritesPage (offset_of l (Page page (spare_slot (state_of_page before.base page)))) (history old) (history new) result
-  pub steps : honest old → (size : ℕ) (s : States) (x y : State) → Assigns l (history old) s → CheckpointIs size before x y s
-      → AreAt before.base.params.rows kept (position_in before.stage) x.content y.content → Steps size l (history old) (history new) s before (flushed page before) x y result
-  pub whole : honest old → (size : ℕ) (s : States) (x y : State) → Assigns l (history old) s → CheckpointIs size before x y s → result ≢ Err (Corrupt Pages)
-  pub spelled : honest old → IsPageReadable l (history old) before.base page → FlushesAsSpelled l before.base kept (position_in before.stage) page (history old) (history new) result
+  pub written : g.honest old → WritesPage (offset_of l (Page page (spare_slot (state_of_page before.base page)))) (g.history old) (g.history new) result
+  pub steps : g.honest old → (size : ℕ) (s : States) (x y : State) → Assigns l (g.history old) s → CheckpointIs size before x y s
+      → AreAt before.base.params.rows kept (position_in before.stage) x.content y.content → Steps size l (g.history old) (g.history new) s before (flushed page before) x y result
+  pub whole : g.honest old → (size : ℕ) (s : States) (x y : State) → Assigns l (g.history old) s → CheckpointIs size before x y s → result ≢ Err (Corrupt Pages)
+  pub spelled : g.honest old → IsPageReadable l (g.history old) before.base page → FlushesAsSpelled l before.base kept (position_in before.stage) page (g.history old) (g.history new) result
 
 -- ---- syncs
 

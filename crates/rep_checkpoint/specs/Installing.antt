@@ -1,6 +1,7 @@
 -- What the calls that install a snapshot do on an honest device, and what follows from how it stands.
 use Rattle.std.specs.Prelude.{◌≡◌, ◌⊎◌, ℕ, true, List, length, Result, OnOk, OnErr}
 use Rattle.rep_types.specs.Order.{State}
+use Rattle.rep_disk.specs.declared.disk.Disk.{Ghosts}
 use Rattle.rep_disk.specs.History.{History}
 use Rattle.rep_layout.specs.declared.super_body.SuperBody.{SuperBody}
 use Rattle.rep_layout.specs.declared.place.Layout.{Layout}
@@ -37,13 +38,13 @@ Installs size l old new s base during after x y z result = StepsTo l old new s (
 
 -- The write that comes next: of exactly these bytes at this offset, in that place. The snapshot is as far as that where it succeeds, and
 -- else as far as it was, and the device failed.
-pub record InstallsNext {D T E : Type 0} (honest : D → Type 0) (history : D → History) (l : Layout) (base : SuperBody) (before after : Coming) (old new : D) (result : Result T E) : Type 0 where
+pub record InstallsNext {D T E : Type 0} (g : Ghosts D) (l : Layout) (base : SuperBody) (before after : Coming) (old new : D) (result : Result T E) : Type 0 where
   pub done : OnOk result (after ≡ gone before)
   pub fault : OnErr result (after ≡ before)
-  pub written : WritesOnly honest history (next_offset l base (Toward before.next before.part)) (next_bytes (Toward before.next before.part)) old new result
-  pub inside : WritesIn honest history l (next_place base (Toward before.next before.part)) old new result
-  pub steps : honest old → (size : ℕ) (s : States) (x y : State) → Assigns l (history old) s → InstallationIs size base before x y s
-      → Installs size l (history old) (history new) s base (gone before) (gone before) x y y result
+  pub written : WritesOnly g (next_offset l base (Toward before.next before.part)) (next_bytes (Toward before.next before.part)) old new result
+  pub inside : WritesIn g l (next_place base (Toward before.next before.part)) old new result
+  pub steps : g.honest old → (size : ℕ) (s : States) (x y : State) → Assigns l (g.history old) s → InstallationIs size base before x y s
+      → Installs size l (g.history old) (g.history new) s base (gone before) (gone before) x y y result
 
 -- a page as the snapshot has it: of this number, written for the snapshot's position, with these rows
 abbrev pub coming_page : Coming → ℕ → Rows → PageBody
@@ -57,17 +58,17 @@ pub record WritesSpelled {T E : Type 0} (schema : List ℕ) (page : PageBody) (a
   pub writes : Writes at bytes old new result
 
 -- On an honest device: one write at most, of the page as the snapshot has it, into the slot that the base doesn't use.
-abbrev pub WritesComing : {D T E : Type 0} → (D → Type 0) → (D → History) → Layout → SuperBody → Coming → ℕ → Rows → D → D → Result T E → Type 0
-WritesComing honest history l base i page rows old new result =
-    honest old → WritesSpelled base.params.rows (coming_page i page rows) (offset_of l (Page page (spare_slot (state_of_page base page)))) (history old) (history new) result
+abbrev pub WritesComing : {D T E : Type 0} → Ghosts D → Layout → SuperBody → Coming → ℕ → Rows → D → D → Result T E → Type 0
+WritesComing g l base i page rows old new result =
+    g.honest old → WritesSpelled base.params.rows (coming_page i page rows) (offset_of l (Page page (spare_slot (state_of_page base page)))) (g.history old) (g.history new) result
 
 -- A page came: it was written, as the snapshot has it, into the slot that the base doesn't use, and the snapshot brings its rows too.
-pub record InstallsPage {D T E : Type 0} (honest : D → Type 0) (history : D → History) (l : Layout) (base : SuperBody) (page : ℕ) (rows : Rows) (before after : Coming) (old new : D) (result : Result T E) : Type 0 where
+pub record InstallsPage {D T E : Type 0} (g : Ghosts D) (l : Layout) (base : SuperBody) (page : ℕ) (rows : Rows) (before after : Coming) (old new : D) (result : Result T E) : Type 0 where
   pub done : OnOk result (after ≡ placed base page before)
   pub fault : OnErr result (after ≡ before)
-  pub written : WritesComing honest history l base before page rows old new result
-  pub steps : honest old → (size : ℕ) (s : States) (x y : State) → Assigns l (history old) s → InstallationIs size base before x y s
-      → Installs size l (history old) (history new) s base before (placed base page before) x y (with_page base.params.rows page rows y) result
+  pub written : WritesComing g l base before page rows old new result
+  pub steps : g.honest old → (size : ℕ) (s : States) (x y : State) → Assigns l (g.history old) s → InstallationIs size base before x y s
+      → Installs size l (g.history old) (g.history new) s base before (placed base page before) x y (with_page base.params.rows page rows y) result
 
 -- ---- laws
 

@@ -5,6 +5,7 @@ use Rattle.rep_types.specs.declared.refusal.Refusal.{Refusal}
 use Rattle.rep_types.specs.declared.refusal.Refusal.TheVariants.{Corrupt}
 use Rattle.rep_types.specs.declared.refusal.Part.TheVariants.{Pages}
 use Rattle.rep_types.specs.Settings.{IsRow}
+use Rattle.rep_disk.specs.declared.disk.Disk.{Ghosts}
 use Rattle.rep_disk.specs.History.{History}
 use Rattle.rep_layout.specs.declared.super_body.SuperBody.{SuperBody}
 use Rattle.rep_layout.specs.declared.place.Layout.{Layout}
@@ -35,13 +36,13 @@ abbrev pub AreRows : List ℕ → ℕ → (Key → Option (List ℕ)) → PageBo
 AreRows rows number content page = (key : Key) → IsRow rows key → (row_place rows key).page ≡ number → content key ≡ row_of rows page.rows key
 
 -- These bytes, the spelling of the page, are written into its slot.
-pub record PutsPage {D T E : Type 0} (honest : D → Type 0) (history : D → History) (l : Layout) (b : SuperBody) (page : PageBody) (slot : Slot) (old new : D) (result : Result T E) : Type 0 where
+pub record PutsPage {D T E : Type 0} (g : Ghosts D) (l : Layout) (b : SuperBody) (page : PageBody) (slot : Slot) (old new : D) (result : Result T E) : Type 0 where
   pub bytes : List ℕ
   pub is_page : IsPageBody b.params.rows page bytes
   pub size : length bytes ≡ PAGE_BODY
-  pub written : WritesOnly honest history (offset_of l (Page page.number slot)) bytes old new result
-  pub inside : WritesIn honest history l (Page page.number slot) old new result
-  pub states : StepsAt honest history l (Page page.number slot) (writing bytes) old new result
+  pub written : WritesOnly g (offset_of l (Page page.number slot)) bytes old new result
+  pub inside : WritesIn g l (Page page.number slot) old new result
+  pub states : StepsAt g l (Page page.number slot) (writing bytes) old new result
 
 -- The page of this number at this position, with rows of this content, as bytes.
 pub record IsPageAt (rows : List ℕ) (number position : ℕ) (content : Key → Option (List ℕ)) (body : List ℕ) : Type 0 where
@@ -59,9 +60,9 @@ pub record PutsIn {T E : Type 0} (l : Layout) (old new : History) (s : States) (
   pub reaches : Reaches l old new states states result
 
 -- The page was read, and written as it is at this position into the slot in which the superblock hasn't it.
-pub record MovesPage {D T : Type 0} (honest : D → Type 0) (history : D → History) (l : Layout) (b : SuperBody) (kept : Kept) (position number : ℕ) (old new : D) (result : Result T Refusal) : Type 0 where
-  pub written : honest old → WritesPage (offset_of l (Page number (spare_slot (state_of_page b number)))) (history old) (history new) result
-  pub puts : honest old → (s : States) (x y : Key → Option (List ℕ)) → Assigns l (history old) s → IsStable b x s → AreAt b.params.rows kept position x y
-      → PutsIn l (history old) (history new) s (Page number (spare_slot (state_of_page b number))) (IsPageAt b.params.rows number position y) result
-  pub whole : honest old → (s : States) (content : Key → Option (List ℕ)) → Assigns l (history old) s → IsStable b content s → result ≢ Err (Corrupt Pages)
-  pub spelled : honest old → IsPageReadable l (history old) b number → FlushesAsSpelled l b kept position number (history old) (history new) result
+pub record MovesPage {D T : Type 0} (g : Ghosts D) (l : Layout) (b : SuperBody) (kept : Kept) (position number : ℕ) (old new : D) (result : Result T Refusal) : Type 0 where
+  pub written : g.honest old → WritesPage (offset_of l (Page number (spare_slot (state_of_page b number)))) (g.history old) (g.history new) result
+  pub puts : g.honest old → (s : States) (x y : Key → Option (List ℕ)) → Assigns l (g.history old) s → IsStable b x s → AreAt b.params.rows kept position x y
+      → PutsIn l (g.history old) (g.history new) s (Page number (spare_slot (state_of_page b number))) (IsPageAt b.params.rows number position y) result
+  pub whole : g.honest old → (s : States) (content : Key → Option (List ℕ)) → Assigns l (g.history old) s → IsStable b content s → result ≢ Err (Corrupt Pages)
+  pub spelled : g.honest old → IsPageReadable l (g.history old) b number → FlushesAsSpelled l b kept position number (g.history old) (g.history new) result

@@ -4,7 +4,7 @@ ghost use Rattle.std.specs.Prelude.{◌≡◌, ◌⊎◌, None, IfErr, IfSome, O
 ghost use Rattle.rep_types.specs.declared.key.Key.{Key};
 ghost use Rattle.rep_types.specs.declared.refusal.Refusal.TheVariants.{DiskFault, Corrupt};
 ghost use Rattle.rep_types.specs.declared.refusal.Part.TheVariants.{Pages};
-ghost use Rattle.rep_disk.specs.Calls.{IsCall};
+ghost use Rattle.rep_disk.specs.Devices.{Calls};
 ghost use Rattle.rep_layout.specs.Places.{layout_of as places_of};
 ghost use Rattle.rep_layout.specs.Supers.{IsSuper};
 ghost use Rattle.rep_cells.specs.Device.{disk_of, layout_of};
@@ -37,9 +37,9 @@ pub(crate) fn put_page<D: Disk>(
 ) -> Result<(), Refusal>
     requires layout { layout_of cells.old ≡ places_of base.now.params }
     requires page { (first : Key) × IsPage base.now.params.rows first page.now }
-    ensures call { IsCall D.size D.failures D.honest (disk_of cells.old) (disk_of cells.new) (fault_of result) }
+    ensures call { Calls D.Disk (disk_of cells.old) (disk_of cells.new) (fault_of result) }
     ensures layout { layout_of cells.new ≡ layout_of cells.old }
-    ensures puts { PutsPage D.honest D.history (layout_of cells.old) base.now page.now (spare_slot (state_of_page base.now page.now.number)) (disk_of cells.old) (disk_of cells.new) (fault_of result) }
+    ensures puts { PutsPage D.Disk (layout_of cells.old) base.now page.now (spare_slot (state_of_page base.now page.now.number)) (disk_of cells.old) (disk_of cells.new) (fault_of result) }
     ensures refused { IfErr result (λ e. e ≡ DiskFault) }
 {
     row_places_are_told();
@@ -63,10 +63,10 @@ fn move_page<D: Disk>(
     requires super_body { IsSuper base.now }
     requires layout { layout_of cells.old ≡ places_of base.now.params }
     requires page { (first : Key) × IsFirstRow base.now.params.rows number first }
-    ensures call { IsCall D.size D.failures D.honest (disk_of cells.old) (disk_of cells.new) (fault_of result) }
+    ensures call { Calls D.Disk (disk_of cells.old) (disk_of cells.new) (fault_of result) }
     ensures layout { layout_of cells.new ≡ layout_of cells.old }
-    ensures moves { IsPooled D.honest D.history base.now.params.rows (layout_of cells.old) (disk_of cells.old) pool.old → MovesPage D.honest D.history (layout_of cells.old) base.now versions.now position number (disk_of cells.old) (disk_of cells.new) result }
-    ensures agrees { GoesOnIf D.honest D.history base.now.params.rows (layout_of cells.old) (disk_of cells.old) (disk_of cells.new) pool.old pool.new result }
+    ensures moves { IsPooled D.Disk base.now.params.rows (layout_of cells.old) (disk_of cells.old) pool.old → MovesPage D.Disk (layout_of cells.old) base.now versions.now position number (disk_of cells.old) (disk_of cells.new) result }
+    ensures agrees { GoesOnIf D.Disk base.now.params.rows (layout_of cells.old) (disk_of cells.old) (disk_of cells.new) pool.old pool.new result }
     ensures without { pool.new ≡ without_page number pool.old }
     ensures refused { IfErr result (λ e. (e ≡ DiskFault) ⊎ (e ≡ Corrupt Pages)) }
 {
@@ -137,18 +137,18 @@ impl Checkpoint {
         versions: &Versions,
         page: u32,
     ) -> Result<(), Refusal>
-        ensures call { IsCall D.size D.failures D.honest (disk_of cells.old) (disk_of cells.new) (fault_of result) }
+        ensures call { Calls D.Disk (disk_of cells.old) (disk_of cells.new) (fault_of result) }
         ensures layout { layout_of cells.new ≡ layout_of cells.old }
         ensures refused { IfSome (flush_refusal (layout_of cells.old) self.old page) (λ e. IsRefused e self.old self.new (disk_of cells.old) (disk_of cells.new) result) }
         // A refusal, also the device's fault, leaves the checkpoint as it was.
         ensures unchanged { OnErr result (self.new ≡ self.old) }
         // The base stays.
         ensures base { self.new.base ≡ self.old.base }
-        ensures flushes { flush_refusal (layout_of cells.old) self.old page ≡ None → IsPooled D.honest D.history self.old.base.params.rows (layout_of cells.old) (disk_of cells.old) pool.old → Flushes D.honest D.history (layout_of cells.old) versions.now page self.old self.new (disk_of cells.old) (disk_of cells.new) result }
+        ensures flushes { flush_refusal (layout_of cells.old) self.old page ≡ None → IsPooled D.Disk self.old.base.params.rows (layout_of cells.old) (disk_of cells.old) pool.old → Flushes D.Disk (layout_of cells.old) versions.now page self.old self.new (disk_of cells.old) (disk_of cells.new) result }
         // Refused so it leaves the pool as it was; else the pool keeps nothing of the page, and it agrees with the device as before.
         ensures kept { IfSome (flush_refusal (layout_of cells.old) self.old page) (λ _. pool.new ≡ pool.old) }
         ensures without { flush_refusal (layout_of cells.old) self.old page ≡ None → pool.new ≡ without_page page pool.old }
-        ensures agrees { GoesOnIf D.honest D.history self.old.base.params.rows (layout_of cells.old) (disk_of cells.old) (disk_of cells.new) pool.old pool.new result }
+        ensures agrees { GoesOnIf D.Disk self.old.base.params.rows (layout_of cells.old) (disk_of cells.old) (disk_of cells.new) pool.old pool.new result }
     {
         if let Some(refusal) = self.flush_refusal(cells.layout(), page) {
             return Err(refusal);

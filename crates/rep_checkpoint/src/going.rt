@@ -1,7 +1,7 @@
 //! How a checkpoint goes on: the writes behind the pages, and syncs.
 
 ghost use Rattle.std.specs.Prelude.{◌≡◌, None, IfErr, IfSome, OnErr, length};
-ghost use Rattle.rep_disk.specs.Calls.{IsCall};
+ghost use Rattle.rep_disk.specs.Devices.{Calls};
 ghost use Rattle.rep_layout.specs.Places.{offset_of, layout_of as places_of};
 ghost use Rattle.rep_layout.specs.Supers.{IsSuper, super_bytes};
 ghost use Rattle.rep_layout.specs.Windows.{IsWindowBody, window_bytes};
@@ -68,11 +68,11 @@ pub(crate) fn put_window<D: Disk>(
     next: &NextBase,
 ) -> Result<(), DiskFault>
     requires { IsWindowBody next.now.super.params (window_of next.now) }
-    ensures call { IsCall D.size D.failures D.honest (disk_of cells.old) (disk_of cells.new) result }
+    ensures call { Calls D.Disk (disk_of cells.old) (disk_of cells.new) result }
     ensures layout { layout_of cells.new ≡ layout_of cells.old }
-    ensures written { WritesOnly D.honest D.history (offset_of (layout_of cells.old) (Place.Window side)) (window_bytes (window_of next.now)) (disk_of cells.old) (disk_of cells.new) result }
-    ensures inside { WritesIn D.honest D.history (layout_of cells.old) (Place.Window side) (disk_of cells.old) (disk_of cells.new) result }
-    ensures states { StepsAt D.honest D.history (layout_of cells.old) (Place.Window side) (writing (window_bytes (window_of next.now))) (disk_of cells.old) (disk_of cells.new) result }
+    ensures written { WritesOnly D.Disk (offset_of (layout_of cells.old) (Place.Window side)) (window_bytes (window_of next.now)) (disk_of cells.old) (disk_of cells.new) result }
+    ensures inside { WritesIn D.Disk (layout_of cells.old) (Place.Window side) (disk_of cells.old) (disk_of cells.new) result }
+    ensures states { StepsAt D.Disk (layout_of cells.old) (Place.Window side) (writing (window_bytes (window_of next.now))) (disk_of cells.old) (disk_of cells.new) result }
 {
     let body = next.window_bytes();
     cells.write_area(Place::Window(side), body.as_slice())
@@ -85,11 +85,11 @@ pub(crate) fn put_super<D: Disk>(
     next: &NextBase,
 ) -> Result<(), DiskFault>
     requires { IsSuper next.now.super }
-    ensures call { IsCall D.size D.failures D.honest (disk_of cells.old) (disk_of cells.new) result }
+    ensures call { Calls D.Disk (disk_of cells.old) (disk_of cells.new) result }
     ensures layout { layout_of cells.new ≡ layout_of cells.old }
-    ensures written { WritesOnly D.honest D.history (offset_of (layout_of cells.old) (Place.Super side)) (super_bytes next.now.super) (disk_of cells.old) (disk_of cells.new) result }
-    ensures inside { WritesIn D.honest D.history (layout_of cells.old) (Place.Super side) (disk_of cells.old) (disk_of cells.new) result }
-    ensures states { StepsAt D.honest D.history (layout_of cells.old) (Place.Super side) (filling (super_bytes next.now.super)) (disk_of cells.old) (disk_of cells.new) result }
+    ensures written { WritesOnly D.Disk (offset_of (layout_of cells.old) (Place.Super side)) (super_bytes next.now.super) (disk_of cells.old) (disk_of cells.new) result }
+    ensures inside { WritesIn D.Disk (layout_of cells.old) (Place.Super side) (disk_of cells.old) (disk_of cells.new) result }
+    ensures states { StepsAt D.Disk (layout_of cells.old) (Place.Super side) (filling (super_bytes next.now.super)) (disk_of cells.old) (disk_of cells.new) result }
 {
     let body = super_bytes(&next.superblock);
     cells.fill(Place::Super(side), body.as_slice())
@@ -121,11 +121,11 @@ impl Checkpoint {
     /// Writes what comes next.
     fn write_next<D: Disk>(&self, cells: &mut Cells<D>) -> Result<(), DiskFault>
         requires due { next_refusal_at (stage_of self.now) ≡ None }
-        ensures call { IsCall D.size D.failures D.honest (disk_of cells.old) (disk_of cells.new) result }
+        ensures call { Calls D.Disk (disk_of cells.old) (disk_of cells.new) result }
         ensures layout { layout_of cells.new ≡ layout_of cells.old }
-        ensures written { WritesOnly D.honest D.history (next_offset (layout_of cells.old) self.now.base self.now.stage) (next_bytes self.now.stage) (disk_of cells.old) (disk_of cells.new) result }
-        ensures inside { WritesIn D.honest D.history (layout_of cells.old) (next_place self.now.base self.now.stage) (disk_of cells.old) (disk_of cells.new) result }
-        ensures states { StepsAt D.honest D.history (layout_of cells.old) (next_place self.now.base self.now.stage) (next_step self.now.stage) (disk_of cells.old) (disk_of cells.new) result }
+        ensures written { WritesOnly D.Disk (next_offset (layout_of cells.old) self.now.base self.now.stage) (next_bytes self.now.stage) (disk_of cells.old) (disk_of cells.new) result }
+        ensures inside { WritesIn D.Disk (layout_of cells.old) (next_place self.now.base self.now.stage) (disk_of cells.old) (disk_of cells.new) result }
+        ensures states { StepsAt D.Disk (layout_of cells.old) (next_place self.now.base self.now.stage) (next_step self.now.stage) (disk_of cells.old) (disk_of cells.new) result }
     {
         let side = spare_side(&self.base);
         match &self.stage {
@@ -163,14 +163,14 @@ impl Checkpoint {
     /// checkpoint then stands as it did, and on a device that failed nothing more is known of what it wrote:
     /// whoever calls stops.
     pub fn next<D: Disk>(&mut self, cells: &mut Cells<D>) -> Result<(), Refusal>
-        ensures call { IsCall D.size D.failures D.honest (disk_of cells.old) (disk_of cells.new) (fault_of result) }
+        ensures call { Calls D.Disk (disk_of cells.old) (disk_of cells.new) (fault_of result) }
         ensures layout { layout_of cells.new ≡ layout_of cells.old }
         ensures refused { IfSome (next_refusal (layout_of cells.old) self.old) (λ e. IsRefused e self.old self.new (disk_of cells.old) (disk_of cells.new) result) }
         // A refusal, also the device's fault, leaves the checkpoint as it was.
         ensures unchanged { OnErr result (self.new ≡ self.old) }
         // The base stays.
         ensures base { self.new.base ≡ self.old.base }
-        ensures goes { next_refusal (layout_of cells.old) self.old ≡ None → GoesOn D.honest D.history (layout_of cells.old) self.old self.new (disk_of cells.old) (disk_of cells.new) result }
+        ensures goes { next_refusal (layout_of cells.old) self.old ≡ None → GoesOn D.Disk (layout_of cells.old) self.old self.new (disk_of cells.old) (disk_of cells.new) result }
     {
         if let Some(refusal) = self.next_refusal(cells.layout()) {
             return Err(refusal);

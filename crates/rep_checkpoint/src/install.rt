@@ -2,7 +2,7 @@
 
 ghost use Rattle.std.specs.Prelude.{◌≡◌, ◌↔◌, ◌≤◌, ◌<◌, true, length, replicate, IfErr};
 ghost use Rattle.rep_types.specs.declared.key.Key.{Key};
-ghost use Rattle.rep_disk.specs.Calls.{IsCall};
+ghost use Rattle.rep_disk.specs.Devices.{Calls};
 ghost use Rattle.rep_layout.specs.declared.page_state.PageState.TheVariants.{Nowhere};
 ghost use Rattle.rep_layout.specs.Places.{layout_of as places_of};
 ghost use Rattle.rep_layout.specs.Supers.{IsSuper};
@@ -151,12 +151,12 @@ impl Installation {
         requires coming { IsComing base.now self.old.next }
         requires due { self.old.part ≡ Flushing }
         requires page { IsNewPage base.now self.old.next page rows }
-        ensures call { IsCall D.size D.failures D.honest (disk_of cells.old) (disk_of cells.new) (fault_of result) }
+        ensures call { Calls D.Disk (disk_of cells.old) (disk_of cells.new) (fault_of result) }
         ensures layout { layout_of cells.new ≡ layout_of cells.old }
-        ensures puts { InstallsPage D.honest D.history (layout_of cells.old) base.now page rows self.old self.new (disk_of cells.old) (disk_of cells.new) result }
+        ensures puts { InstallsPage D.Disk (layout_of cells.old) base.now page rows self.old self.new (disk_of cells.old) (disk_of cells.new) result }
         ensures coming { IsComing base.now self.new.next }
         ensures without { pool.new ≡ without_page page pool.old }
-        ensures agrees { GoesOnIf D.honest D.history base.now.params.rows (layout_of cells.old) (disk_of cells.old) (disk_of cells.new) pool.old pool.new result }
+        ensures agrees { GoesOnIf D.Disk base.now.params.rows (layout_of cells.old) (disk_of cells.old) (disk_of cells.new) pool.old pool.new result }
         ensures refused { IfErr result (λ e. e ≡ Refusal.DiskFault) }
     {
         row_places_are_told();
@@ -180,11 +180,11 @@ impl Installation {
     fn write_next<D: Disk>(&self, cells: &mut Cells<D>, base: &SuperBody) -> Result<(), DiskFault>
         requires coming { IsComing base.now self.now.next }
         requires due { IsDue self.now.part }
-        ensures call { IsCall D.size D.failures D.honest (disk_of cells.old) (disk_of cells.new) result }
+        ensures call { Calls D.Disk (disk_of cells.old) (disk_of cells.new) result }
         ensures layout { layout_of cells.new ≡ layout_of cells.old }
-        ensures written { WritesOnly D.honest D.history (next_offset (layout_of cells.old) base.now (Toward self.now.next self.now.part)) (next_bytes (Toward self.now.next self.now.part)) (disk_of cells.old) (disk_of cells.new) result }
-        ensures inside { WritesIn D.honest D.history (layout_of cells.old) (next_place base.now (Toward self.now.next self.now.part)) (disk_of cells.old) (disk_of cells.new) result }
-        ensures states { StepsAt D.honest D.history (layout_of cells.old) (next_place base.now (Toward self.now.next self.now.part)) (next_step (Toward self.now.next self.now.part)) (disk_of cells.old) (disk_of cells.new) result }
+        ensures written { WritesOnly D.Disk (next_offset (layout_of cells.old) base.now (Toward self.now.next self.now.part)) (next_bytes (Toward self.now.next self.now.part)) (disk_of cells.old) (disk_of cells.new) result }
+        ensures inside { WritesIn D.Disk (layout_of cells.old) (next_place base.now (Toward self.now.next self.now.part)) (disk_of cells.old) (disk_of cells.new) result }
+        ensures states { StepsAt D.Disk (layout_of cells.old) (next_place base.now (Toward self.now.next self.now.part)) (next_step (Toward self.now.next self.now.part)) (disk_of cells.old) (disk_of cells.new) result }
     {
         let side = spare_side(base);
         match self.part {
@@ -215,9 +215,9 @@ impl Installation {
         requires layout { layout_of cells.old ≡ places_of base.now.params }
         requires coming { IsComing base.now self.old.next }
         requires due { IsDue self.old.part }
-        ensures call { IsCall D.size D.failures D.honest (disk_of cells.old) (disk_of cells.new) (fault_of result) }
+        ensures call { Calls D.Disk (disk_of cells.old) (disk_of cells.new) (fault_of result) }
         ensures layout { layout_of cells.new ≡ layout_of cells.old }
-        ensures goes { InstallsNext D.honest D.history (layout_of cells.old) base.now self.old self.new (disk_of cells.old) (disk_of cells.new) result }
+        ensures goes { InstallsNext D.Disk (layout_of cells.old) base.now self.old self.new (disk_of cells.old) (disk_of cells.new) result }
         ensures coming { IsComing base.now self.new.next }
         ensures refused { IfErr result (λ e. e ≡ Refusal.DiskFault) }
     {

@@ -7,3 +7,4 @@ pub mod Record
 pub mod Fuses
 pub mod Laws
 pub mod Leaving
+pub mod Devices

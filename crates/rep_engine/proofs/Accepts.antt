@@ -8,7 +8,8 @@ use Rattle.rep_types.specs.declared.value.Write.{Write}
 use Rattle.rep_types.specs.Settings.{Setting}
 use Rattle.rep_types.specs.Order.{State}
 use Rattle.rep_record.specs.Blocks.{SeqnosFrom}
-use Rattle.rep_disk.specs.History.{History, stable, IsImage}
+use Rattle.rep_disk.specs.declared.disk.Disk.{Ghosts}
+use Rattle.rep_disk.specs.History.{stable, IsImage}
 use Rattle.rep_layout.specs.declared.place.Layout.{Layout}
 use Rattle.rep_cells.specs.Known.{Assigns}
 use Rattle.rep_versions.specs.Versions.{Kept, IsAdded}
@@ -124,17 +125,17 @@ longer_front n js image f =
 
 -- ---- the engine with more items
 
-module _ {D : Type 0} (honest : D → Type 0) (history : D → History) (failures : D → ℕ) (law : VersionsFollowTheItems) (apart : TheLogIsApart) (old new : Engine D) (js : List Judged)
+module _ {D : Type 0} (g : Ghosts D) (law : VersionsFollowTheItems) (apart : TheLogIsApart) (old new : Engine D) (js : List Judged)
     (engine : IsEngine new.layout new.checkpoint new.log new.kept new.block) (disk : new.disk ≡ old.disk) (layout : new.layout ≡ old.layout) (same_checkpoint : new.checkpoint ≡ old.checkpoint)
     (log : new.log ≡ old.log) (halted : new.halted ≡ old.halted) (block : new.block ≡ old.block ++ js) (adds : AddsItems js old.kept new.kept)
-    (n : Node) (holds : Holds honest history failures n old) (judged : AreJudgedFrom n.facts.setting (reached n.facts.setting n.base n.items) js) where
+    (n : Node) (holds : Holds g n old) (judged : AreJudgedFrom n.facts.setting (reached n.facts.setting n.base n.items) js) where
   more : n.facts.ahead ++ js ≡ new.block
   more = ap (λ (s : Standing). s.ahead ++ js) holds.facts ∙ sym block
 
   durable_is : n.facts.durable ≡ durable_of new.log
   durable_is = ap (λ (s : Standing). s.durable) holds.facts ∙ ap durable_of (sym log)
 
-  facts_more : (with_items js n).facts ≡ facts_of failures new
+  facts_more : (with_items js n).facts ≡ facts_of g new
   facts_more = ap (λ (s : Standing). record s { ahead = s.ahead ++ js }) holds.facts ∙ sym (rw block (rw disk (rw same_checkpoint ((rw log (rw halted refl))))))
 
   is_standing : IsStanding (with_items js n).facts
@@ -174,21 +175,21 @@ module _ {D : Type 0} (honest : D → Type 0) (history : D → History) (failure
       let seqno : new.log.seqno ≡ old.log.seqno = ap (λ (k : Log). k.seqno) log in
       omega (arith, ahead, rest, durable_is, seqno, holds.node.enough, holds.node.position, holds.node.facts.based, engine.behind)
 
-  stands_more : Stands history n old → Stands history (with_items js n) new
+  stands_more : Stands g n old → Stands g (with_items js n) new
   stands_more there = record {
     states = there.states;
-    assigns = subst (λ (l : Layout). Assigns l (history new.disk) there.states) (sym layout) (subst (λ d. Assigns old.layout (history d) there.states) (sym disk) there.assigns);
+    assigns = subst (λ (l : Layout). Assigns l (g.history new.disk) there.states) (sym layout) (subst (λ d. Assigns old.layout (g.history d) there.states) (sym disk) there.assigns);
     blocks = there.blocks;
     sealed = there.sealed;
     stands =
         let h = there.stands in
-        let more : StandsAs (with_items js n) (length (stable (history old.disk))) old.checkpoint old.log there.blocks there.sealed there.states =
-        stands_on apart n (with_items js n) (length (stable (history old.disk))) old.checkpoint old.log old.log there.blocks there.sealed there.sealed there.states there.states holds.node
+        let more : StandsAs (with_items js n) (length (stable (g.history old.disk))) old.checkpoint old.log there.blocks there.sealed there.states =
+        stands_on apart n (with_items js n) (length (stable (g.history old.disk))) old.checkpoint old.log old.log there.blocks there.sealed there.sealed there.states there.states holds.node
         (record { uuid = refl; setting = refl; durable = refl; at = refl; base = refl; more = js; items = refl }) refl (λ place other. refl) h.log_is h.phase
         (h.coming ∙ sym (take-append-le (underway n.facts.phase) n.facts.ahead js holds.node.facts.block)) (judged_append n.facts.setting n.base n.items js h.judged judged) h.undefined h in
-        subst (λ d. StandsAs (with_items js n) (length (stable (history d))) new.checkpoint new.log there.blocks there.sealed there.states) (sym disk)
-        (subst (λ (c : Checkpoint). StandsAs (with_items js n) (length (stable (history old.disk))) c new.log there.blocks there.sealed there.states) (sym same_checkpoint)
-        (subst (λ (k : Log). StandsAs (with_items js n) (length (stable (history old.disk))) old.checkpoint k there.blocks there.sealed there.states) (sym log) more));
+        subst (λ d. StandsAs (with_items js n) (length (stable (g.history d))) new.checkpoint new.log there.blocks there.sealed there.states) (sym disk)
+        (subst (λ (c : Checkpoint). StandsAs (with_items js n) (length (stable (g.history old.disk))) c new.log there.blocks there.sealed there.states) (sym same_checkpoint)
+        (subst (λ (k : Log). StandsAs (with_items js n) (length (stable (g.history old.disk))) old.checkpoint k there.blocks there.sealed there.states) (sym log) more));
     versions =
         let follow : SeqnosFrom (old.log.seqno + length old.block) js =
         seqnos_behind old.log.seqno old.block js (subst (λ (xs : List Judged). SeqnosFrom old.log.seqno xs) block (subst (λ (k : Log). SeqnosFrom k.seqno new.block) log engine.follow)) in
@@ -198,11 +199,11 @@ module _ {D : Type 0} (honest : D → Type 0) (history : D → History) (failure
     gates = λ i. there.gates i ∙ ap (λ (k : Log). stands_at k i) (sym log);
   }
 
-  pub holds_more : Holds honest history failures (with_items js n) new
+  pub holds_more : Holds g (with_items js n) new
   holds_more = record {
-    is_honest = subst honest (sym disk) holds.is_honest;
+    is_honest = subst g.honest (sym disk) holds.is_honest;
     facts = facts_more;
     node = is_node;
     runs = λ on. stands_more (holds.runs (sym halted ∙ on));
-    images = λ image here. longer_front n js image (holds.images image (subst (λ d. IsImage (history d) image) disk here));
+    images = λ image here. longer_front n js image (holds.images image (subst (λ d. IsImage (g.history d) image) disk here));
   }

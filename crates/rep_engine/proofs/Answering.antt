@@ -1,7 +1,6 @@
 -- What a call answered, from what was found out of it.
-use Rattle.std.proofs.Common.{◌≡◌, true, false, List, Option, None, Some, Result, Ok, Err, OnOk, refl, sym, ap, ◌∙◌}
+use Rattle.std.proofs.Common.{◌≡◌, true, false, List, Option, None, Some, refl, sym, ap, ◌∙◌}
 use Rattle.std.specs.Prelude.{is_some}
-use Rattle.rep_types.specs.declared.refusal.Refusal.{Refusal}
 use Rattle.rep_types.specs.declared.judged.Judged.{Judged}
 use Rattle.rep_layout.specs.declared.place.Layout.{Layout}
 use Rattle.rep_cells.specs.declared.cells.Cells.{Cells}
@@ -37,8 +36,3 @@ runs_of {D} {within} is still = sym (ap (λ (e : Engine D). e.halted) is) ∙ no
 -- and inside of such a call too
 pub runs_within : {D : Type 0} {within old : Engine D} → within ≡ old → old.halted ≡ None → within.halted ≡ None
 runs_within {D} is runs = ap (λ (e : Engine D). e.halted) is ∙ runs
-
--- what is so anyway is so where it was done
-pub on_ok : {T : Type 0} (result : Result T Refusal) (P : Type 0) → P → OnOk result P
-on_ok (Ok x) P h = h
-on_ok (Err r) P h = tt

@@ -7,7 +7,8 @@ use Rattle.rep_types.specs.declared.judged.Judged.{Judged}
 use Rattle.rep_types.specs.declared.refusal.Refusal.{Refusal}
 use Rattle.rep_types.specs.declared.refusal.Part.TheVariants.{Log as in_log}
 use Rattle.rep_record.specs.Blocks.{Contents, IsBlock, block_bytes, contents}
-use Rattle.rep_disk.specs.History.{History, seen, stable, IsImage}
+use Rattle.rep_disk.specs.declared.disk.Disk.{Ghosts}
+use Rattle.rep_disk.specs.History.{seen, stable, IsImage}
 use Rattle.rep_layout.specs.declared.place.Layout.{Layout}
 use Rattle.rep_layout.specs.declared.place.Place.{Place}
 use Rattle.rep_layout.specs.declared.super_body.SuperBody.{SuperBody}
@@ -59,28 +60,28 @@ some_cell l b super here = subst (λ (k : Layout). 0 < k.cells) (sym here) (grin
 
 -- ---- a block is read in its cell, by an engine that runs
 
-module _ {D : Type 0} (honest : D → Type 0) (history : D → History) (within old : Engine D) (is : within ≡ old) (index number : ℕ) (number_is : number ≡ within.log.start + index) (place : Place) (place_is : place ≡ log_of within.layout number)
+module _ {D : Type 0} (g : Ghosts D) (within old : Engine D) (is : within ≡ old) (index number : ℕ) (number_is : number ≡ within.log.start + index) (place : Place) (place_is : place ≡ log_of within.layout number)
     (body : Option (List ℕ)) (result : Result Contents Refusal) (only : (records : List Judged) → IsBlock number records → body ≡ Some (block_bytes number records) → result ≡ Ok (contents number records)) where
   -- ---- of a node
 
-  module _ (failures : D → ℕ) (engine : IsEngine within.layout within.checkpoint within.log within.kept within.block) (runs : within.halted ≡ None) (due : index < within.log.next - within.log.start)
-      (shown : honest within.disk → (s : States) → Assigns within.layout (history within.disk) s → IsSure (s place) → ShowsAs (s place) body) (n : Node) (holds : Holds honest history failures n old) where
-    before : Holds honest history failures n within
-    before = subst (Holds honest history failures n) (sym is) holds
+  module _ (engine : IsEngine within.layout within.checkpoint within.log within.kept within.block) (runs : within.halted ≡ None) (due : index < within.log.next - within.log.start)
+      (shown : g.honest within.disk → (s : States) → Assigns within.layout (g.history within.disk) s → IsSure (s place) → ShowsAs (s place) body) (n : Node) (holds : Holds g n old) where
+    before : Holds g n within
+    before = subst (Holds g n) (sym is) holds
 
-    there : Stands history n within
+    there : Stands g n within
     there = before.runs runs
 
     live : Stand (StandsOpen there.states within.layout) within.log.start (within.checkpoint.base.position + 1) there.blocks
     live = subst (λ (l : Layout). Stand (StandsOpen there.states l) within.log.start (within.checkpoint.base.position + 1) there.blocks) (sym engine.layout) there.stands.log_is.live
 
     -- The blocks that it has open are those behind its node's base, in every image.
-    tail : ImagesReadAsAllowed → OpenBlocksAreShown → IsTail n within.layout (history within.disk) within.checkpoint.base within.log there.blocks
+    tail : ImagesReadAsAllowed → OpenBlocksAreShown → IsTail n within.layout (g.history within.disk) within.checkpoint.base within.log there.blocks
     tail allowed shown_open = record {
       items = there.stands.durable;
       count = there.stands.log_is.next;
       stand = λ image here. shown_open within.layout there.states (reading_of within.layout image) within.log.start (within.checkpoint.base.position + 1) there.blocks
-          (some_cell within.layout within.checkpoint.base engine.checkpoint.is_super engine.layout) (allowed within.layout (history within.disk) there.states image there.assigns here) live;
+          (some_cell within.layout within.checkpoint.base engine.checkpoint.is_super engine.layout) (allowed within.layout (g.history within.disk) there.states image there.assigns here) live;
     }
 
     -- What is read is that of this index.
@@ -92,10 +93,10 @@ module _ {D : Type 0} (honest : D → Type 0) (history : D → History) (within 
         only (get_or there.blocks index []) block
         (subst (λ state. ShowsAs state body) opened (shown before.is_honest there.states there.assigns (subst IsSure (sym opened) tt)))
 
-    pub tail_block : ImagesReadAsAllowed → OpenBlocksAreShown → (b : Contents) → result ≡ Ok b → IsTailBlock n old.layout (history old.disk) old.checkpoint.base old.log index b.records
+    pub tail_block : ImagesReadAsAllowed → OpenBlocksAreShown → (b : Contents) → result ≡ Ok b → IsTailBlock n old.layout (g.history old.disk) old.checkpoint.base old.log index b.records
     tail_block allowed shown_open b gave =
         let here : contents number (get_or there.blocks index []) ≡ b = cc (read, gave) in
-        subst (λ (e : Engine D). IsTailBlock n e.layout (history e.disk) e.checkpoint.base e.log index b.records) is
+        subst (λ (e : Engine D). IsTailBlock n e.layout (g.history e.disk) e.checkpoint.base e.log index b.records) is
         (record { blocks = there.blocks; tail = tail allowed shown_open; here = sym (ap (λ (x : Contents). x.records) here) })
 
     -- It is never refused.
@@ -105,28 +106,28 @@ module _ {D : Type 0} (honest : D → Type 0) (history : D → History) (within 
   -- ---- as the bytes have it
 
   module _ (found : IfOk result (λ b. body ≡ Some (block_bytes number b.records)))
-      (reads : honest within.disk → IsReadable within.layout (history within.disk) place → body ≡ reading_of within.layout (seen (history within.disk)) place)
-      (is_honest : honest old.disk) (readable : IsReadable old.layout (history old.disk) (log_of old.layout (old.log.start + index))) where
+      (reads : g.honest within.disk → IsReadable within.layout (g.history within.disk) place → body ≡ reading_of within.layout (seen (g.history within.disk)) place)
+      (is_honest : g.honest old.disk) (readable : IsReadable old.layout (g.history old.disk) (log_of old.layout (old.log.start + index))) where
     -- Where it lies.
     lies : place ≡ log_of old.layout (old.log.start + index)
     lies = place_is ∙ ap (log_of within.layout) number_is ∙ ap (λ (e : Engine D). log_of e.layout (e.log.start + index)) is
 
-    as_read : body ≡ reading_of old.layout (seen (history old.disk)) (log_of old.layout (old.log.start + index))
+    as_read : body ≡ reading_of old.layout (seen (g.history old.disk)) (log_of old.layout (old.log.start + index))
     as_read =
-        reads (subst (λ (e : Engine D). honest e.disk) (sym is) is_honest)
-        (subst (IsReadable within.layout (history within.disk)) (sym lies) (subst (λ (e : Engine D). IsReadable e.layout (history e.disk) (log_of old.layout (old.log.start + index))) (sym is) readable))
-        ∙ ap (reading_of within.layout (seen (history within.disk))) lies ∙ ap (λ (e : Engine D). reading_of e.layout (seen (history e.disk)) (log_of old.layout (old.log.start + index))) is
+        reads (subst (λ (e : Engine D). g.honest e.disk) (sym is) is_honest)
+        (subst (IsReadable within.layout (g.history within.disk)) (sym lies) (subst (λ (e : Engine D). IsReadable e.layout (g.history e.disk) (log_of old.layout (old.log.start + index))) (sym is) readable))
+        ∙ ap (reading_of within.layout (seen (g.history within.disk))) lies ∙ ap (λ (e : Engine D). reading_of e.layout (seen (g.history e.disk)) (log_of old.layout (old.log.start + index))) is
 
     same : number ≡ old.log.start + index
     same = number_is ∙ ap (λ (e : Engine D). e.log.start + index) is
 
-    pub block_spelled : (b : Contents) → result ≡ Ok b → IsBlockAsSpelled (reading_of old.layout (seen (history old.disk))) old.layout (old.log.start + index) (Ok (Some b)) in_log
+    pub block_spelled : (b : Contents) → result ≡ Ok b → IsBlockAsSpelled (reading_of old.layout (seen (g.history old.disk))) old.layout (old.log.start + index) (Ok (Some b)) in_log
     block_spelled b gave = record {
       block = sym as_read ∙ subst (λ (r : Result Contents Refusal). IfOk r (λ x. body ≡ Some (block_bytes number x.records))) gave found ∙ ap (λ k. Some (block_bytes k b.records)) same;
       corrupt = λ e. absurd cc;
     }
 
-    pub none_spelled : (e : Refusal) → result ≡ Err e → IsBlockAsSpelled (reading_of old.layout (seen (history old.disk))) old.layout (old.log.start + index) (Err e) in_log
+    pub none_spelled : (e : Refusal) → result ≡ Err e → IsBlockAsSpelled (reading_of old.layout (seen (g.history old.disk))) old.layout (old.log.start + index) (Err e) in_log
     none_spelled e gave = record {
       block = tt;
       corrupt = λ _ records block stands.

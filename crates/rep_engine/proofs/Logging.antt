@@ -15,6 +15,7 @@ use Rattle.rep_steps.specs.Moves.{Found, after, logged}
 use Rattle.rep_engine.specs.Engines.{Engine, IsEngine, IsWhole, facts_of}
 use Rattle.rep_engine.proofs.Going.{with_log}
 use Rattle.rep_engine.specs.Writing.{IsWrite, written_in, coming_in}
+use Rattle.rep_disk.specs.declared.disk.Disk.{Ghosts}
 
 -- whether the next block's cell is live, and whether it stands open
 abbrev pub is_live : Log → Bool
@@ -74,18 +75,18 @@ write_at_rest true stale e = absurd cc
 write_at_rest false true e = tt
 write_at_rest false false e = tt
 
-module _ {D : Type 0} (failures : D → ℕ) (e : Engine D) (h : IsEngine e.layout e.checkpoint e.log e.kept e.block) where
+module _ {D : Type 0} (g : Ghosts D) (e : Engine D) (h : IsEngine e.layout e.checkpoint e.log e.kept e.block) where
   record Free : Type 0 where
     some : 0 < length e.block
     room : e.log.next < e.log.start + e.log.cells
 
-  free : log_refusal (facts_of failures e) Resting ≡ None → Free
+  free : log_refusal (facts_of g e) Resting ≡ None → Free
   free none =
-      let tests = free_by 0 (gathered (facts_of failures e) == 0) (nat_le (e.log.start + e.checkpoint.base.params.cells) e.log.next) none in
-      let some : gathered (facts_of failures e) ≡ length e.block = h.fits in
+      let tests = free_by 0 (gathered (facts_of g e) == 0) (nat_le (e.log.start + e.checkpoint.base.params.cells) e.log.next) none in
+      let some : gathered (facts_of g e) ≡ length e.block = h.fits in
       record { some = grind (arith, nat_tests); room = grind (arith, nat_tests, h.cells) }
 
-  write_by : (phase : Phase) → log_refusal (facts_of failures e) phase ≡ None → IsWrite (due_in e.log phase)
+  write_by : (phase : Phase) → log_refusal (facts_of g e) phase ≡ None → IsWrite (due_in e.log phase)
   write_by Resting none =
       let room = (free none).room in
       write_at_rest (is_live e.log) (is_stale e.log) (grind (arith, nat_tests))
@@ -95,14 +96,14 @@ module _ {D : Type 0} (failures : D → ℕ) (e : Engine D) (h : IsEngine e.layo
   write_by (Opening k) none = absurd cc
 
   -- where the log isn't refused, there is something to write
-  pub is_write : log_refusal (facts_of failures e) e.log.phase ≡ None → IsWrite (due_of e.log)
+  pub is_write : log_refusal (facts_of g e) e.log.phase ≡ None → IsWrite (due_of e.log)
   is_write none = write_by e.log.phase none
 
   record Goes (phase : Phase) : Type 0 where
     room : e.log.next + busy phase ≤ e.log.start + e.log.cells
     whole : IsWhole phase e.block
 
-  goes : (stale : Bool) (phase : Phase) → e.log.phase ≡ phase → log_refusal (facts_of failures e) phase ≡ None → Goes (logged (length e.block) stale phase)
+  goes : (stale : Bool) (phase : Phase) → e.log.phase ≡ phase → log_refusal (facts_of g e) phase ≡ None → Goes (logged (length e.block) stale phase)
   goes true Resting at none = record { room = omega (arith, (free none).room); whole = (free none).some }
   goes false Resting at none = record { room = omega (arith, (free none).room); whole = record { all = refl; some = (free none).some } }
   goes stale Closing at none = absurd cc
@@ -114,13 +115,13 @@ module _ {D : Type 0} (failures : D → ℕ) (e : Engine D) (h : IsEngine e.layo
   goes stale (Opening k) at none = absurd cc
 
   -- what is so of an engine goes on being so
-  pub engine_logged : (stale : Bool) → log_refusal (facts_of failures e) e.log.phase ≡ None → IsEngine e.layout e.checkpoint (at_phase (logged (length e.block) stale e.log.phase) e.log) e.kept e.block
+  pub engine_logged : (stale : Bool) → log_refusal (facts_of g e) e.log.phase ≡ None → IsEngine e.layout e.checkpoint (at_phase (logged (length e.block) stale e.log.phase) e.log) e.kept e.block
   engine_logged stale none =
       let on = goes stale e.log.phase refl none in
       with_log e.layout e.checkpoint e.log e.kept e.block h (at_phase (logged (length e.block) stale e.log.phase) e.log) refl refl refl refl on.room on.whole
 
 -- the facts after it
-pub facts_logged : {D : Type 0} (failures : D → ℕ) (e new : Engine D) (f : Found) → e.halted ≡ None → new.halted ≡ None → gathered (facts_of failures e) ≡ length e.block → failures new.disk ≡ failures e.disk
+pub facts_logged : {D : Type 0} (g : Ghosts D) (e new : Engine D) (f : Found) → e.halted ≡ None → new.halted ≡ None → gathered (facts_of g e) ≡ length e.block → g.failures new.disk ≡ g.failures e.disk
     → new.checkpoint ≡ e.checkpoint → new.block ≡ e.block → new.log ≡ at_phase (logged (length e.block) f.stale e.log.phase) e.log
-    → facts_of failures new ≡ after (facts_of failures e) to_log f
-facts_logged failures e new f runs still fits rose same_checkpoint same_block log = rw log (rw same_checkpoint ((rw same_block (rw rose (rw still (rw fits (rw runs refl)))))))
+    → facts_of g new ≡ after (facts_of g e) to_log f
+facts_logged g e new f runs still fits rose same_checkpoint same_block log = rw log (rw same_checkpoint ((rw same_block (rw rose (rw still (rw fits (rw runs refl)))))))

@@ -3,6 +3,7 @@ use Rattle.std.proofs.Common.{◌≡◌, ◌≢◌, ℕ, List, Option, None, Som
 use Rattle.rep_types.specs.declared.refusal.Refusal.{Refusal}
 use Rattle.rep_types.specs.declared.refusal.Refusal.TheVariants.{DiskFault}
 use Rattle.rep_types.specs.Settings.{Setting}
+use Rattle.rep_disk.specs.declared.disk.Disk.{Ghosts}
 use Rattle.rep_disk.specs.History.{History, Synced}
 use Rattle.rep_layout.specs.declared.place.Layout.{Layout}
 use Rattle.rep_layout.specs.declared.place.Slot.{Slot}
@@ -20,28 +21,27 @@ use Rattle.rep_checkpoint.specs.Moves.{next_refusal}
 use Rattle.rep_checkpoint.specs.Calls.{IsRefused, GoesOn, next_place}
 
 -- where the base is of the same parameters, and the places are the same
-pub pooled_as : {D : Type 0} (honest : D → Type 0) (history : D → History) (l k : Layout) (b c : SuperBody) (disk : D) (pages : Pooled) → k ≡ l → c.params ≡ b.params → IsPooled honest history b.params.rows l disk pages → IsPooled honest history c.params.rows k disk pages
-pooled_as honest history l k b c disk pages places same pooled =
-    subst (λ (x : Layout). IsPooled honest history c.params.rows x disk pages) (sym places) (subst (λ (p : Setting). IsPooled honest history p.rows l disk pages) (sym same) pooled)
+pub pooled_as : {D : Type 0} (g : Ghosts D) (l k : Layout) (b c : SuperBody) (disk : D) (pages : Pooled) → k ≡ l → c.params ≡ b.params → IsPooled g b.params.rows l disk pages → IsPooled g c.params.rows k disk pages
+pooled_as g l k b c disk pages places same pooled =
+    subst (λ (x : Layout). IsPooled g c.params.rows x disk pages) (sym places) (subst (λ (p : Setting). IsPooled g p.rows l disk pages) (sym same) pooled)
 
 -- behind a read
-pub pooled_read : {D : Type 0} (honest : D → Type 0) (history : D → History) (rows : List ℕ) (l : Layout) (old new : D) (pages : Pooled) → (honest new → honest old) → (honest old → history new ≡ history old) → IsPooled honest history rows l old pages → IsPooled honest history rows l new pages
-pooled_read honest history rows l old new pages was same pooled = λ h. subst (λ (past : History). Agrees rows l past pages) (sym (same (was h))) (pooled (was h))
+pub pooled_read : {D : Type 0} (g : Ghosts D) (rows : List ℕ) (l : Layout) (old new : D) (pages : Pooled) → (g.honest new → g.honest old) → (g.honest old → g.history new ≡ g.history old) → IsPooled g rows l old pages → IsPooled g rows l new pages
+pooled_read g rows l old new pages was same pooled = λ h. subst (λ (past : History). Agrees rows l past pages) (sym (same (was h))) (pooled (was h))
 
 -- behind a write in a place that is no page's
 pub pooled_beside :
-    {D T E : Type 0} → PoolsGoOn → (honest : D → Type 0) (history : D → History) (rows : List ℕ) (l : Layout) (place : Place) (old new : D) (pages : Pooled) (result : Result T E)
-    → ((number : ℕ) (slot : Slot) → Page number slot ≢ place) → (honest new → honest old) → WritesIn honest history l place old new result → IsOk result → IsPooled honest history rows l old pages → IsPooled honest history rows l new pages
-pooled_beside go honest history rows l place old new pages (Ok x) other was writes ok pooled = λ h.
-    go.written rows l (history old) (history new) pages place (writes (was h)) (λ number kept there. other number kept.slot) (pooled (was h))
-pooled_beside go honest history rows l place old new pages (Err e) other was writes ok pooled = absurd cc
+    {D T E : Type 0} → PoolsGoOn → (g : Ghosts D) (rows : List ℕ) (l : Layout) (place : Place) (old new : D) (pages : Pooled) (result : Result T E)
+    → ((number : ℕ) (slot : Slot) → Page number slot ≢ place) → (g.honest new → g.honest old) → WritesIn g l place old new result → IsOk result → IsPooled g rows l old pages → IsPooled g rows l new pages
+pooled_beside go g rows l place old new pages (Ok x) other was writes ok pooled = λ h.
+    go.written rows l (g.history old) (g.history new) pages place (writes (was h)) (λ number kept there. other number kept.slot) (pooled (was h))
+pooled_beside go g rows l place old new pages (Err e) other was writes ok pooled = absurd cc
 
 -- and behind a sync
-pub pooled_synced :
-    {D T E : Type 0} → PoolsGoOn → (honest : D → Type 0) (history : D → History) (rows : List ℕ) (l : Layout) (old new : D) (pages : Pooled) (result : Result T E)
-    → (honest new → honest old) → (honest old → OnOk result (history new ≡ Synced (history old))) → IsOk result → IsPooled honest history rows l old pages → IsPooled honest history rows l new pages
-pooled_synced go honest history rows l old new pages (Ok x) was synced ok pooled = λ h. subst (λ (past : History). Agrees rows l past pages) (sym (synced (was h))) (go.synced rows l (history old) pages (pooled (was h)))
-pooled_synced go honest history rows l old new pages (Err e) was synced ok pooled = absurd cc
+pub pooled_synced : {D T E : Type 0} → PoolsGoOn → (g : Ghosts D) (rows : List ℕ) (l : Layout) (old new : D) (pages : Pooled) (result : Result T E)
+    → (g.honest new → g.honest old) → (g.honest old → OnOk result (g.history new ≡ Synced (g.history old))) → IsOk result → IsPooled g rows l old pages → IsPooled g rows l new pages
+pooled_synced go g rows l old new pages (Ok x) was synced ok pooled = λ h. subst (λ (past : History). Agrees rows l past pages) (sym (synced (was h))) (go.synced rows l (g.history old) pages (pooled (was h)))
+pooled_synced go g rows l old new pages (Err e) was synced ok pooled = absurd cc
 
 -- and behind the checkpoint's next write, which is in no page
 pub not_next : (b : SuperBody) (stage : Stage) (number : ℕ) (slot : Slot) → Page number slot ≢ next_place b stage
@@ -54,18 +54,16 @@ not_next b (Toward next SuperFilled) number slot e = absurd cc
 not_next b (Toward next SuperOpening) number slot e = absurd cc
 not_next b (Retiring written) number slot e = absurd cc
 
-went_by :
-    {D : Type 0} → PoolsGoOn → (honest : D → Type 0) (history : D → History) (l : Layout) (c d : Checkpoint) (old new : D) (pages : Pooled) (result : Result (Unit {0}) Refusal)
-    → GoesOn honest history l c d old new result → (honest new → honest old) → result ≢ Err DiskFault → IsPooled honest history c.base.params.rows l old pages → IsPooled honest history c.base.params.rows l new pages
-went_by go honest history l c d old new pages (Ok x) goes was other pooled = pooled_beside {T = Unit {0}} {E = Refusal} go honest history c.base.params.rows l (next_place c.base c.stage) old new pages (Ok x) (not_next c.base c.stage) was goes.inside refl pooled
-went_by go honest history l c d old new pages (Err e) goes was other pooled = absurd (other (ap Err goes.fault.0))
+went_by : {D : Type 0} → PoolsGoOn → (g : Ghosts D) (l : Layout) (c d : Checkpoint) (old new : D) (pages : Pooled) (result : Result (Unit {0}) Refusal)
+    → GoesOn g l c d old new result → (g.honest new → g.honest old) → result ≢ Err DiskFault → IsPooled g c.base.params.rows l old pages → IsPooled g c.base.params.rows l new pages
+went_by go g l c d old new pages (Ok x) goes was other pooled = pooled_beside {T = Unit {0}} {E = Refusal} go g c.base.params.rows l (next_place c.base c.stage) old new pages (Ok x) (not_next c.base c.stage) was goes.inside refl pooled
+went_by go g l c d old new pages (Err e) goes was other pooled = absurd (other (ap Err goes.fault.0))
 
-pub pooled_gone :
-    {D : Type 0} → PoolsGoOn → (honest : D → Type 0) (history : D → History) (l : Layout) (c d : Checkpoint) (old new : D) (pages : Pooled) (result : Result (Unit {0}) Refusal)
-    → IfSome (next_refusal l c) (λ e. IsRefused e c d old new result) → (next_refusal l c ≡ None → GoesOn honest history l c d old new result) → (honest new → honest old) → result ≢ Err DiskFault
-    → IsPooled honest history c.base.params.rows l old pages → IsPooled honest history c.base.params.rows l new pages
-pooled_gone {D} go honest history l c d old new pages result refused goes was other pooled = by (next_refusal l c) refl refused
+pub pooled_gone : {D : Type 0} → PoolsGoOn → (g : Ghosts D) (l : Layout) (c d : Checkpoint) (old new : D) (pages : Pooled) (result : Result (Unit {0}) Refusal)
+    → IfSome (next_refusal l c) (λ e. IsRefused e c d old new result) → (next_refusal l c ≡ None → GoesOn g l c d old new result) → (g.honest new → g.honest old) → result ≢ Err DiskFault
+    → IsPooled g c.base.params.rows l old pages → IsPooled g c.base.params.rows l new pages
+pooled_gone {D} go g l c d old new pages result refused goes was other pooled = by (next_refusal l c) refl refused
   where
-    by : (o : Option Refusal) → next_refusal l c ≡ o → IfSome o (λ e. IsRefused e c d old new result) → IsPooled honest history c.base.params.rows l new pages
-    by None none is = went_by go honest history l c d old new pages result (goes none) was other pooled
-    by (Some e) some is = subst (λ (disk : D). IsPooled honest history c.base.params.rows l disk pages) (sym is.disk) pooled
+    by : (o : Option Refusal) → next_refusal l c ≡ o → IfSome o (λ e. IsRefused e c d old new result) → IsPooled g c.base.params.rows l new pages
+    by None none is = went_by go g l c d old new pages result (goes none) was other pooled
+    by (Some e) some is = subst (λ (disk : D). IsPooled g c.base.params.rows l disk pages) (sym is.disk) pooled

@@ -8,8 +8,10 @@ use Rattle.rep_types.specs.declared.refusal.Refusal.TheVariants.{DiskFault, Corr
 use Rattle.rep_types.specs.declared.refusal.Part.TheVariants.{Pages}
 use Rattle.rep_types.specs.declared.verdict.Verdict.TheVariants.{Commit}
 use Rattle.rep_types.specs.Settings.{Setting, has_row, IsRow}
-use Rattle.rep_disk.specs.Calls.{IsCall, Rises}
+use Rattle.rep_disk.specs.declared.disk.Disk.{Ghosts}
+use Rattle.rep_disk.specs.Calls.{Rises}
 use Rattle.rep_disk.specs.History.{History, seen, stable, IsImage}
+use Rattle.rep_disk.specs.Devices.{Calls}
 use Rattle.rep_layout.specs.declared.rows.RowPlace.{RowPlace}
 use Rattle.rep_layout.specs.Rows.{row_place}
 use Rattle.rep_layout.specs.declared.place.Layout.{Layout}
@@ -98,33 +100,33 @@ not_early s key at none =
     let early : nat_lt at s.base ≡ false = at_base s.base s.durable at (has_row s.setting.rows key) (nat_lt s.durable at) (nat_lt at s.base) none in
     grind (arith, nat_tests)
 
-module _ {D : Type 0} (honest : D → Type 0) (history : D → History) (size failures : D → ℕ) (sized : (disk : D) → honest disk → length (stable (history disk)) ≡ size disk)
-    (old : Engine D) (key : Key) (at : ℕ) (runs : old.halted ≡ None) (none : read_refusal (facts_of failures old) key at ≡ None) where
+module _ {D : Type 0} (g : Ghosts D) (sized : (disk : D) → g.honest disk → length (stable (g.history disk)) ≡ g.size disk)
+    (old : Engine D) (key : Key) (at : ℕ) (runs : old.halted ≡ None) (none : read_refusal (facts_of g old) key at ≡ None) where
   -- on any device
-  pub row_moves : (value : Option (List ℕ)) (new : Engine D) → facts_of failures new ≡ facts_of failures old → Moves (facts_of failures old) (Read key at) (Row value) (facts_of failures new)
-  row_moves value new same = done_moves (facts_of failures old) (Read key at) (record { verdict = Commit; stale = false; left = []; row = value }) (facts_of failures new) (ap is_some runs) none same
+  pub row_moves : (value : Option (List ℕ)) (new : Engine D) → facts_of g new ≡ facts_of g old → Moves (facts_of g old) (Read key at) (Row value) (facts_of g new)
+  row_moves value new same = done_moves (facts_of g old) (Read key at) (record { verdict = Commit; stale = false; left = []; row = value }) (facts_of g new) (ap is_some runs) none same
 
-  facts_halt : (disk : D) → facts_of failures (record old { disk = disk; halted = Some old.log.phase }) ≡ halted_at (failures disk) (facts_of failures old)
+  facts_halt : (disk : D) → facts_of g (record old { disk = disk; halted = Some old.log.phase }) ≡ halted_at (g.failures disk) (facts_of g old)
   facts_halt disk = rw runs refl
 
-  base_moves : (result : Result (Option (List ℕ)) Refusal) (disk : D) → IsCall size failures honest old.disk disk (fault_of result) → IfErr result (λ e. (e ≡ DiskFault) ⊎ (e ≡ Corrupt Pages))
-      → Moves (facts_of failures old) (Read key at) (row result) (facts_of failures (record old { disk = disk; halted = halted_by old.log.phase result }))
-  base_moves (Ok value) disk call refused = row_moves value (record old { disk = disk; halted = None }) (facts_asked failures old runs disk (call.no_cause refl))
+  base_moves : (result : Result (Option (List ℕ)) Refusal) (disk : D) → Calls g old.disk disk (fault_of result) → IfErr result (λ e. (e ≡ DiskFault) ⊎ (e ≡ Corrupt Pages))
+      → Moves (facts_of g old) (Read key at) (row result) (facts_of g (record old { disk = disk; halted = halted_by old.log.phase result }))
+  base_moves (Ok value) disk call refused = row_moves value (record old { disk = disk; halted = None }) (facts_asked g old runs disk (call.no_cause refl))
   base_moves (Err e) disk call (inl fault) =
-      let rises : Rises (failures old.disk) (failures disk) = rises_by (Option (List ℕ)) e fault call in
-      subst (λ (f : Refusal). Moves (facts_of failures old) (Read key at) (Refused f) (facts_of failures (record old { disk = disk; halted = halted_by {T = Option (List ℕ)} old.log.phase (Err f) }))) (sym fault)
-      (fault_moves (facts_of failures old) (Read key at) _ (ap is_some runs) none refl rises (facts_halt disk))
+      let rises : Rises (g.failures old.disk) (g.failures disk) = rises_by (Option (List ℕ)) g e fault call in
+      subst (λ (f : Refusal). Moves (facts_of g old) (Read key at) (Refused f) (facts_of g (record old { disk = disk; halted = halted_by {T = Option (List ℕ)} old.log.phase (Err f) }))) (sym fault)
+      (fault_moves (facts_of g old) (Read key at) _ (ap is_some runs) none refl rises (facts_halt disk))
   base_moves (Err e) disk call (inr corrupt) =
-      let same : failures disk ≡ failures old.disk = (subst (λ (f : Refusal). IsCall size failures honest old.disk disk (fault_of {T = Option (List ℕ)} (Err f))) corrupt call).no_cause refl in
-      subst (λ (f : Refusal). Moves (facts_of failures old) (Read key at) (Refused f) (facts_of failures (record old { disk = disk; halted = halted_by {T = Option (List ℕ)} old.log.phase (Err f) }))) (sym corrupt)
-      (corrupt_moves (facts_of failures old) (Read key at) _ (ap is_some runs) none refl (facts_asked failures old runs disk same))
+      let same : g.failures disk ≡ g.failures old.disk = (subst (λ (f : Refusal). Calls g old.disk disk (fault_of {T = Option (List ℕ)} (Err f))) corrupt call).no_cause refl in
+      subst (λ (f : Refusal). Moves (facts_of g old) (Read key at) (Refused f) (facts_of g (record old { disk = disk; halted = halted_by {T = Option (List ℕ)} old.log.phase (Err f) }))) (sym corrupt)
+      (corrupt_moves (facts_of g old) (Read key at) _ (ap is_some runs) none refl (facts_asked g old runs disk same))
 
-  pub reads_moves : (result : Result (Option (List ℕ)) Refusal) (new : Engine D) → ReadsRow size failures honest history key old new result → Moves (facts_of failures old) (Read key at) (row result) (facts_of failures new)
-  reads_moves result new h = subst (λ e. Moves (facts_of failures old) (Read key at) (row result) (facts_of failures e)) (sym h.after) (base_moves result new.disk h.call h.refused)
+  pub reads_moves : (result : Result (Option (List ℕ)) Refusal) (new : Engine D) → ReadsRow g key old new result → Moves (facts_of g old) (Read key at) (row result) (facts_of g new)
+  reads_moves result new h = subst (λ e. Moves (facts_of g old) (Read key at) (row result) (facts_of g e)) (sym h.after) (base_moves result new.disk h.call h.refused)
 
   -- of a node
-  module _ (law : VersionsFollowTheItems) (lead : VersionsLeadToTheState) (n : Node) (holds : Holds honest history failures n old) where
-    there : Stands history n old
+  module _ (law : VersionsFollowTheItems) (lead : VersionsLeadToTheState) (n : Node) (holds : Holds g n old) where
+    there : Stands g n old
     there = holds.runs runs
 
     runs_on : n.facts.stopped ≡ false
@@ -147,37 +149,37 @@ module _ {D : Type 0} (honest : D → Type 0) (history : D → History) (size fa
         (done_steps n (Read key at) runs_on none_here)
 
     -- the engine whose device failed
-    halted_then : NodesStayNodes → (disk : D) → honest disk → Rises (failures old.disk) (failures disk) → history disk ≡ history old.disk
-        → Steps n (Read key at) (Refused DiskFault) (halted_node (failures disk) n) × Holds honest history failures (halted_node (failures disk) n) (record old { disk = disk; halted = Some old.log.phase })
+    halted_then : NodesStayNodes → (disk : D) → g.honest disk → Rises (g.failures old.disk) (g.failures disk) → g.history disk ≡ g.history old.disk
+        → Steps n (Read key at) (Refused DiskFault) (halted_node (g.failures disk) n) × Holds g (halted_node (g.failures disk) n) (record old { disk = disk; halted = Some old.log.phase })
     halted_then nodes disk is_honest rises past =
-        let steps = fault_steps n (Read key at) (failures disk) runs_on none_here refl (subst (λ k. Rises k (failures disk)) (sym (ap (λ (s : Standing). s.failures) holds.facts)) rises) in (
+        let steps = fault_steps n (Read key at) (g.failures disk) runs_on none_here refl (subst (λ k. Rises k (g.failures disk)) (sym (ap (λ (s : Standing). s.failures) holds.facts)) rises) in (
           steps,
           record {
             is_honest = is_honest;
-            facts = ap (halted_at (failures disk)) holds.facts ∙ sym (facts_halt disk);
-            node = nodes n (halted_node (failures disk) n) (Read key at) (Refused DiskFault) holds.node steps;
+            facts = ap (halted_at (g.failures disk)) holds.facts ∙ sym (facts_halt disk);
+            node = nodes n (halted_node (g.failures disk) n) (Read key at) (Refused DiskFault) holds.node steps;
             runs = λ on. let never : Some old.log.phase ≡ None = on in absurd cc;
-            images = λ image here. same_front n (halted_node (failures disk) n) image refl refl refl refl refl (holds.images image (subst (λ h. IsImage h image) past here));
+            images = λ image here. same_front n (halted_node (g.failures disk) n) image refl refl refl refl refl (holds.images image (subst (λ h. IsImage h image) past here));
           },
         )
 
     base_steps : NodesStayNodes → (answer : At) → IsAnswer old.kept key at answer → told answer (n.base.content key) ≡ n.base.content key → (result : Result (Option (List ℕ)) Refusal) (disk : D)
-        → IsCall size failures honest old.disk disk (fault_of result) → history disk ≡ history old.disk → IfErr result (λ e. (e ≡ DiskFault) ⊎ (e ≡ Corrupt Pages))
+        → Calls g old.disk disk (fault_of result) → g.history disk ≡ g.history old.disk → IfErr result (λ e. (e ≡ DiskFault) ⊎ (e ≡ Corrupt Pages))
         → IfOk result (λ value. value ≡ n.base.content key) × (result ≡ Err (Corrupt Pages) → ⊥)
-        → (m : Node) × Steps n (Read key at) (row result) m × Holds honest history failures m (record old { disk = disk; halted = halted_by old.log.phase result })
+        → (m : Node) × Steps n (Read key at) (row result) m × Holds g m (record old { disk = disk; halted = halted_by old.log.phase result })
     base_steps nodes answer is below (Ok value) disk call past refused read =
-        (n, row_steps answer value is (read.0 ∙ sym below), holds_asked failures old runs disk (call.no_cause refl) honest history n holds (call.stays_honest holds.is_honest) past)
+        (n, row_steps answer value is (read.0 ∙ sym below), holds_asked g old runs disk (call.no_cause refl) n holds (call.stays_honest holds.is_honest) past)
     base_steps nodes answer is below (Err e) disk call past (inl fault) read =
-        let rises : Rises (failures old.disk) (failures disk) = rises_by (Option (List ℕ)) e fault call in
+        let rises : Rises (g.failures old.disk) (g.failures disk) = rises_by (Option (List ℕ)) g e fault call in
         let stops = halted_then nodes disk (call.stays_honest holds.is_honest) rises past in (
-          halted_node (failures disk) n,
-          subst (λ (f : Refusal). Steps n (Read key at) (Refused f) (halted_node (failures disk) n)) (sym fault) stops.0,
-          subst (λ (f : Refusal). Holds honest history failures (halted_node (failures disk) n) (record old { disk = disk; halted = halted_by {T = Option (List ℕ)} old.log.phase (Err f) })) (sym fault) stops.1,
+          halted_node (g.failures disk) n,
+          subst (λ (f : Refusal). Steps n (Read key at) (Refused f) (halted_node (g.failures disk) n)) (sym fault) stops.0,
+          subst (λ (f : Refusal). Holds g (halted_node (g.failures disk) n) (record old { disk = disk; halted = halted_by {T = Option (List ℕ)} old.log.phase (Err f) })) (sym fault) stops.1,
         )
     base_steps nodes answer is below (Err e) disk call past (inr corrupt) read = absurd (read.1 (ap Err corrupt))
 
     pub reads_steps : NodesStayNodes → (answer : At) → IsAnswer old.kept key at answer → told answer (n.base.content key) ≡ n.base.content key → (result : Result (Option (List ℕ)) Refusal) (new : Engine D)
-        → ReadsRow size failures honest history key old new result → (m : Node) × Steps n (Read key at) (row result) m × Holds honest history failures m new
+        → ReadsRow g key old new result → (m : Node) × Steps n (Read key at) (row result) m × Holds g m new
     reads_steps nodes answer is below result new h =
-        subst (λ e. (m : Node) × Steps n (Read key at) (row result) m × Holds honest history failures m e) (sym h.after)
+        subst (λ e. (m : Node) × Steps n (Read key at) (row result) m × Holds g m e) (sym h.after)
         (base_steps nodes answer is below result new.disk h.call (h.same holds.is_honest) h.refused (h.read holds.is_honest there.states n.base.content there.assigns there.stands.checkpoint.base.content))

@@ -7,7 +7,7 @@ use Rattle.rep_types.specs.declared.refusal.Refusal.TheVariants.{DiskFault, Corr
 use Rattle.rep_types.specs.declared.refusal.Part.TheVariants.{Pages}
 use Rattle.rep_log.specs.declared.phase.Phase.{Phase}
 use Rattle.rep_checkpoint.specs.Standing.{Standing as Checkpoint}
-use Rattle.rep_engine.specs.Engines.{Engine}
+use Rattle.rep_engine.specs.Engines.{Engine, Halts}
 use Rattle.rep_engine.specs.Reading.{halted_by}
 
 -- what a call answers that passes on that it is stopped
@@ -25,7 +25,7 @@ done_or_failed (Err e) refused other = absurd (other (ap Err refused))
 
 module _ {D T : Type 0} (old new : Engine D) where
   -- the device's fault stops it, and nothing else
-  pub fault_stops : (result : Result T Refusal) → new ≡ record old { disk = new.disk; halted = halted_by old.log.phase result } → IfErr result (λ e. e ≡ DiskFault → new ≡ record old { disk = new.disk; halted = Some old.log.phase })
+  pub fault_stops : (result : Result T Refusal) → new ≡ record old { disk = new.disk; halted = halted_by old.log.phase result } → IfErr result (λ e. e ≡ DiskFault → Halts old new)
   fault_stops (Ok x) rest = tt
   fault_stops (Err e) rest = λ fault. rest ∙ ap (λ (r : Refusal). record old { disk = new.disk; halted = halted_by {T = T} old.log.phase (Err r) }) fault
 
@@ -47,6 +47,6 @@ module _ {D T : Type 0} (old new : Engine D) where
       ∙ ap (λ (h : Option Phase). record old { disk = new.disk; halted = h }) halted
 
   pub stays_stopped : (result : Result T Refusal) → new ≡ record old { disk = new.disk; checkpoint = new.checkpoint; halted = new.halted } → new.halted ≡ halted_by old.log.phase result → OnErr result (new.checkpoint ≡ old.checkpoint)
-      → IfErr result (λ e. e ≡ DiskFault → new ≡ record old { disk = new.disk; halted = Some old.log.phase })
+      → IfErr result (λ e. e ≡ DiskFault → Halts old new)
   stays_stopped (Ok x) rest halted same = tt
   stays_stopped (Err e) rest halted same = fault_stops (Err e) (checkpoint_stays (Err e) rest halted same)

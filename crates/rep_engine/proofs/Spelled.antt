@@ -24,10 +24,6 @@ use Rattle.rep_engine.specs.Reading.{IsOfTheBase, ReadsAt}
 
 -- ---- of the base
 
--- what is no row of the schema is absent
-pub row_outside : (r : Reading) (b : SuperBody) (key : Key) → (IsRow b.params.rows key → ⊥) → IsRowAsSpelled r b key (Ok None)
-row_outside r b key out = record { row = record { inside = λ inside. absurd (out inside); outside = λ _. refl }; corrupt = λ e. absurd cc }
-
 -- and a row of the schema is its page's
 pub row_spelled : (r : Reading) (b : SuperBody) (key : Key) (place : RowPlace) (result : Result (Option (List ℕ)) Refusal) → IsRow b.params.rows key → place ≡ row_place b.params.rows key → IsRowOfPage r b place.page place.index result → IsRowAsSpelled r b key result
 row_spelled r b key place result inside is row = by row.page row.spelled row.row

@@ -5,6 +5,7 @@ use Rattle.uuid.specs.Parts.{is_nil_bytes}
 use Rattle.rep_types.specs.declared.judged.Judged.{Judged}
 use Rattle.rep_types.specs.Settings.{Setting}
 use Rattle.rep_types.specs.Order.{State}
+use Rattle.rep_disk.specs.declared.disk.Disk.{Ghosts}
 use Rattle.rep_disk.specs.History.{History, stable, IsImage}
 use Rattle.rep_layout.specs.declared.place.Layout.{Layout}
 use Rattle.rep_layout.specs.declared.place.Place.{Place}
@@ -36,8 +37,8 @@ use Rattle.rep_engine.specs.Engines.{Engine, IsWhole}
 abbrev pub places : {D : Type 0} → Engine D → Layout
 places e = layout_of e.checkpoint.base.params
 
-abbrev pub long : {D : Type 0} → (D → History) → Engine D → ℕ
-long history e = length (stable (history e.disk))
+abbrev pub long : {D : Type 0} → Ghosts D → Engine D → ℕ
+long g e = length (stable (g.history e.disk))
 
 -- ---- a front of one node is one of another with the same base and items
 

@@ -4,8 +4,8 @@ use Rattle.std.specs.Prelude.{IsTrue, is_some, MatchOption, if◌then◌else◌}
 use Rattle.rep_types.specs.declared.refusal.Refusal.{Refusal}
 use Rattle.rep_types.specs.declared.refusal.Refusal.TheVariants.{Stopped, OutOfMemory, DiskFault, Corrupt}
 use Rattle.rep_types.specs.declared.refusal.Part.TheVariants.{Pages}
+use Rattle.rep_disk.specs.declared.disk.Disk.{Ghosts}
 use Rattle.rep_disk.specs.Calls.{Rises}
-use Rattle.rep_disk.specs.History.{History}
 use Rattle.rep_steps.specs.declared.event.Event.{Event}
 use Rattle.rep_steps.specs.declared.event.Event.TheVariants.{Log}
 use Rattle.rep_engine.specs.Engines.{Engine, facts_of, phase_at}
@@ -74,8 +74,8 @@ pub fault_steps : (n : Node) (e : Event) (failures : ℕ) → n.facts.stopped �
 fault_steps n e failures runs none device rises = by_none _ _ (refusal n.facts e) (same_refusal n.facts e runs ∙ none) (inr (inr (device, refl, rises, refl), refl))
 
 -- a log step that is refused
-pub refused_log : {D : Type 0} (honest : D → Type 0) (history : D → History) (failures : D → ℕ) (old : Engine D) (n : Node) → Holds honest history failures n old → old.halted ≡ None → (r : Refusal) → log_refusal (facts_of failures old) old.log.phase ≡ Some r
+pub refused_log : {D : Type 0} (g : Ghosts D) (old : Engine D) (n : Node) → Holds g n old → old.halted ≡ None → (r : Refusal) → log_refusal (facts_of g old) old.log.phase ≡ Some r
     → Steps n Log (Refused r) n
-refused_log honest history failures old n holds runs r some =
+refused_log g old n holds runs r some =
     refused_steps n Log r (ap (λ (s : Standing). s.stopped) holds.facts ∙ ap is_some runs)
-    (ap (λ (s : Standing). log_refusal s s.phase) holds.facts ∙ ap (λ halted. log_refusal (facts_of failures old) (phase_at old.log.phase halted)) runs ∙ some)
+    (ap (λ (s : Standing). log_refusal s s.phase) holds.facts ∙ ap (λ halted. log_refusal (facts_of g old) (phase_at old.log.phase halted)) runs ∙ some)

@@ -27,6 +27,7 @@ use Rattle.rep_checkpoint.specs.Moves.{after_sync as checkpoint_after, is_openin
 use Rattle.rep_checkpoint.specs.Laws.{TheStageIsTheFacts}
 use Rattle.rep_engine.specs.Engines.{Engine, IsEngine, IsWhole, HasItemsBehind, AreWithin, facts_of, durable_of, phase_at}
 use Rattle.rep_engine.specs.Writing.{left_of, told_of, PrunesIf}
+use Rattle.rep_disk.specs.declared.disk.Disk.{Ghosts}
 
 -- ---- what a sync leaves of the block
 
@@ -185,11 +186,11 @@ standing_is : (s : Standing) (uuid : List ℕ) (setting : Setting) (base durable
     → record s { uuid = uuid; setting = setting; base = base; durable = durable; ahead = ahead; phase = phase; next = next; start = start; stage = stage; stopped = stopped } ≡ s
 standing_is s uuid setting base durable next start ahead phase stage stopped i j a b c d e f g h = rw i (rw j (rw a (rw b (rw c (rw d (rw e (rw f (rw g (rw h refl)))))))))
 
-pub facts_synced : {D : Type 0} (failures : D → ℕ) (laws : TheStageIsTheFacts) (of_log : TheSyncedLogIsTheFacts) (e new : Engine D) (f : Found) → IsEngine e.layout e.checkpoint e.log e.kept e.block → e.halted ≡ None → new.halted ≡ None → failures new.disk ≡ failures e.disk
+pub facts_synced : {D : Type 0} (g : Ghosts D) (laws : TheStageIsTheFacts) (of_log : TheSyncedLogIsTheFacts) (e new : Engine D) (f : Found) → IsEngine e.layout e.checkpoint e.log e.kept e.block → e.halted ≡ None → new.halted ≡ None → g.failures new.disk ≡ g.failures e.disk
     → new.checkpoint ≡ checkpoint_after e.checkpoint → new.log ≡ started (checkpoint_after e.checkpoint).base.start (after_sync e.log) → new.block ≡ left_of e.log.phase e.block
-    → (checkpoint_after e.checkpoint).base.uuid ≡ e.checkpoint.base.uuid → (checkpoint_after e.checkpoint).base.params ≡ e.checkpoint.base.params → facts_of failures new ≡ after (facts_of failures e) Sync f
-facts_synced failures laws of_log e new f h runs still rose checkpoint log block uuid params =
-    let s : Standing = after (facts_of failures e) Sync f in
+    → (checkpoint_after e.checkpoint).base.uuid ≡ e.checkpoint.base.uuid → (checkpoint_after e.checkpoint).base.params ≡ e.checkpoint.base.params → facts_of g new ≡ after (facts_of g e) Sync f
+facts_synced g laws of_log e new f h runs still rose checkpoint log block uuid params =
+    let s : Standing = after (facts_of g e) Sync f in
     let p = e.log.phase in
     let c = checkpoint_after e.checkpoint in
     let held = engine_synced e.layout e.checkpoint e.log e.kept e.block h in

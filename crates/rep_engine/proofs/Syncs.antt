@@ -13,11 +13,13 @@ use Rattle.rep_types.specs.declared.verdict.Verdict.TheVariants.{Commit}
 use Rattle.rep_types.specs.declared.value.Write.{Write}
 use Rattle.rep_types.specs.Settings.{Setting}
 use Rattle.rep_types.specs.Replies.{reply_of}
-use Rattle.rep_disk.specs.History.{History, stable, IsImage}
+use Rattle.rep_disk.specs.declared.disk.Disk.{Ghosts}
+use Rattle.rep_disk.specs.History.{stable, IsImage}
 use Rattle.rep_disk.specs.declared.disk.DiskFault.{DiskFault as Fault}
-use Rattle.rep_disk.specs.Calls.{IsCall, Rises}
+use Rattle.rep_disk.specs.Calls.{Rises}
 use Rattle.rep_disk.specs.Moments.{LeavesOnly}
 use Rattle.rep_disk.specs.Leaving.{leaves_weaker}
+use Rattle.rep_disk.specs.Devices.{Calls}
 use Rattle.rep_layout.specs.declared.place.Layout.{Layout}
 use Rattle.rep_layout.specs.declared.super_body.SuperBody.{SuperBody}
 use Rattle.rep_layout.specs.Places.{layout_of}
@@ -93,11 +95,11 @@ ok_of (Ok x) ok h = h
 ok_of (Err e) ok h = absurd cc
 
 -- A sync of an engine that runs, and what it leaves.
-pub record IsSynced {D : Type 0} (honest : D → Type 0) (history : D → History) (size failures : D → ℕ) (old new : Engine D) (result : Result (List Reply) Refusal) (answer : Result (Unit {0}) Fault) : Type 0 where
+pub record IsSynced {D : Type 0} (g : Ghosts D) (old new : Engine D) (result : Result (List Reply) Refusal) (answer : Result (Unit {0}) Fault) : Type 0 where
   pub engine : IsEngine old.layout old.checkpoint old.log old.kept old.block
   pub runs : old.halted ≡ None
-  pub call : IsCall size failures honest old.disk new.disk answer
-  pub settles : Settles honest history old.layout old.disk new.disk answer
+  pub call : Calls g old.disk new.disk answer
+  pub settles : Settles g old.layout old.disk new.disk answer
   pub layout : new.layout ≡ old.layout
 
 -- The device did it: log and checkpoint moved on, what lies below the base went, and these are the replies.
@@ -143,36 +145,36 @@ gates_by log gates (Filling n) j there known = known j
 gates_by log gates (Filled n) j there known = known j
 gates_by log gates (Opening n) j there known = set_by (eqb j (index_of log)) log.stands gates (index_of log) j true refl there (known j)
 
-module _ {D : Type 0} (honest : D → Type 0) (history : D → History) (size failures : D → ℕ) (sized : (disk : D) → honest disk → length (stable (history disk)) ≡ size disk) (laws : TheStageIsTheFacts)
-    (old new : Engine D) (result : Result (List Reply) Refusal) (answer : Result (Unit {0}) Fault) (h : IsSynced honest history size failures old new result answer) where
+module _ {D : Type 0} (g : Ghosts D) (sized : (disk : D) → g.honest disk → length (stable (g.history disk)) ≡ g.size disk) (laws : TheStageIsTheFacts)
+    (old new : Engine D) (result : Result (List Reply) Refusal) (answer : Result (Unit {0}) Fault) (h : IsSynced g old new result answer) where
   -- the log after it, and the facts
   log_after : (replies : List Reply) → GoesOn old new replies → new.log ≡ started (checkpoint_after old.checkpoint).base.start (after_sync old.log)
   log_after replies on = on.log ∙ ap (started new.checkpoint.base.start) on.synced_is ∙ ap (λ (c : Checkpoint). started c.base.start (after_sync old.log)) on.checkpoint
 
-  facts_after : TheSyncedLogIsTheFacts → (replies : List Reply) (f : Found) → IsOk answer → GoesOn old new replies → facts_of failures new ≡ after (facts_of failures old) to_sync f
+  facts_after : TheSyncedLogIsTheFacts → (replies : List Reply) (f : Found) → IsOk answer → GoesOn old new replies → facts_of g new ≡ after (facts_of g old) to_sync f
   facts_after of_log replies f ok on =
-      facts_synced failures laws of_log old new f h.engine h.runs on.runs (h.call.no_cause ok) on.checkpoint (log_after replies on) on.block
+      facts_synced g laws of_log old new f h.engine h.runs on.runs (h.call.no_cause ok) on.checkpoint (log_after replies on) on.block
       (ap (λ (c : Checkpoint). c.base.uuid) (sym on.checkpoint) ∙ on.uuid) (ap (λ (c : Checkpoint). c.base.params) (sym on.checkpoint) ∙ on.params)
 
   -- on any device
-  pub synced_moves : TheSyncedLogIsTheFacts → (replies : List Reply) → IsOk answer → GoesOn old new replies → Moves (facts_of failures old) to_sync (Synced replies) (facts_of failures new)
+  pub synced_moves : TheSyncedLogIsTheFacts → (replies : List Reply) → IsOk answer → GoesOn old new replies → Moves (facts_of g old) to_sync (Synced replies) (facts_of g new)
   synced_moves of_log replies ok on =
       let found : Found = record { verdict = Commit; stale = false; left = []; row = None } in
       let phase : old.log.phase ≡ phase_at old.log.phase old.halted = sym (ap (phase_at old.log.phase) h.runs) in
-      let told : replies ≡ replies_of (facts_of failures old) = on.replies ∙ ap (map reply_of) (told_is old.log.phase old.block h.engine.whole ∙ ap (λ p. take (opening p) old.block) phase) in
-      subst (λ rs. Moves (facts_of failures old) to_sync (Synced rs) (facts_of failures new)) (sym told)
-      (done_moves (facts_of failures old) to_sync found (facts_of failures new) (ap is_some h.runs) refl (facts_after of_log replies found ok on))
+      let told : replies ≡ replies_of (facts_of g old) = on.replies ∙ ap (map reply_of) (told_is old.log.phase old.block h.engine.whole ∙ ap (λ p. take (opening p) old.block) phase) in
+      subst (λ rs. Moves (facts_of g old) to_sync (Synced rs) (facts_of g new)) (sym told)
+      (done_moves (facts_of g old) to_sync found (facts_of g new) (ap is_some h.runs) refl (facts_after of_log replies found ok on))
 
-  module _ (n : Node) (holds : Holds honest history failures n old) where
-    there : Standing_so history n old
+  module _ (n : Node) (holds : Holds g n old) where
+    there : Standing_so g n old
     there = holds.runs h.runs
 
-    settled : Settled (places old) (history old.disk) (history new.disk) there.states answer
+    settled : Settled (places old) (g.history old.disk) (g.history new.disk) there.states answer
     settled =
-        let assigns : Assigns (places old) (history old.disk) there.states = subst (λ k. Assigns k (history old.disk) there.states) h.engine.layout there.assigns in
-        (subst (λ k. Settles honest history k old.disk new.disk answer) h.engine.layout h.settles) holds.is_honest there.states assigns
+        let assigns : Assigns (places old) (g.history old.disk) there.states = subst (λ k. Assigns k (g.history old.disk) there.states) h.engine.layout there.assigns in
+        (subst (λ k. Settles g k old.disk new.disk answer) h.engine.layout h.settles) holds.is_honest there.states assigns
 
-    size_stays : length (stable (history new.disk)) ≡ length (stable (history old.disk))
+    size_stays : length (stable (g.history new.disk)) ≡ length (stable (g.history old.disk))
     size_stays = sized new.disk (h.call.stays_honest holds.is_honest) ∙ h.call.same_size ∙ sym (sized old.disk holds.is_honest)
 
     runs_on : n.facts.stopped ≡ false
@@ -188,23 +190,23 @@ module _ {D : Type 0} (honest : D → Type 0) (history : D → History) (size fa
     cell_is = ap (λ k. k % n.facts.setting.cells) (ap (λ (s : Standing). s.next) holds.facts) ∙ ap (λ k. old.log.next % k) (ap (λ (s : Standing). s.setting.cells) holds.facts ∙ sym h.engine.cells)
 
     -- at each moment, and where it failed
-    images : (image : List ℕ) → IsImage (history new.disk) image → IsFrontAt Means n image
+    images : (image : List ℕ) → IsImage (g.history new.disk) image → IsFrontAt Means n image
     images image here = holds.images image (settled.fewer image here)
 
-    pub sync_leaves : LeavesOnly (history old.disk) (history new.disk) (IsFrontAt Means n)
-    sync_leaves = leaves_weaker (history old.disk) (history new.disk) images settled.reaches.moments
+    pub sync_leaves : LeavesOnly (g.history old.disk) (g.history new.disk) (IsFrontAt Means n)
+    sync_leaves = leaves_weaker (g.history old.disk) (g.history new.disk) images settled.reaches.moments
 
-    pub sync_halts : NodesStayNodes → Rises (failures old.disk) (failures new.disk) → Halts old new → (m : Node) × Steps n to_sync (Refused DiskFault) m × Holds honest history failures m new
+    pub sync_halts : NodesStayNodes → Rises (g.failures old.disk) (g.failures new.disk) → Halts old new → (m : Node) × Steps n to_sync (Refused DiskFault) m × Holds g m new
     sync_halts nodes rises halts =
-        let steps = fault_steps n to_sync (failures new.disk) runs_on refl refl (subst (λ k. Rises k (failures new.disk)) (sym (ap (λ (s : Standing). s.failures) holds.facts)) rises) in (
-          halted_node (failures new.disk) n,
+        let steps = fault_steps n to_sync (g.failures new.disk) runs_on refl refl (subst (λ k. Rises k (g.failures new.disk)) (sym (ap (λ (s : Standing). s.failures) holds.facts)) rises) in (
+          halted_node (g.failures new.disk) n,
           steps,
           record {
             is_honest = h.call.stays_honest holds.is_honest;
             facts = rw holds.facts (rw halts.halted (rw halts.checkpoint (rw halts.block (rw halts.log (rw h.runs refl)))));
-            node = nodes n (halted_node (failures new.disk) n) to_sync (Refused DiskFault) holds.node steps;
+            node = nodes n (halted_node (g.failures new.disk) n) to_sync (Refused DiskFault) holds.node steps;
             runs = λ on. let never : Some old.log.phase ≡ None = sym halts.halted ∙ on in absurd cc;
-            images = λ image here. same_front n (halted_node (failures new.disk) n) image refl refl refl refl refl (images image here);
+            images = λ image here. same_front n (halted_node (g.failures new.disk) n) image refl refl refl refl refl (images image here);
           },
         )
 
@@ -218,9 +220,9 @@ module _ {D : Type 0} (honest : D → Type 0) (history : D → History) (size fa
       is_node : IsNode after_it
       is_node = nodes n after_it to_sync (Synced replies) holds.node steps
 
-      abbrev held : (held : List (List Judged)) × (coming : List Judged) × StandsAs after_it (length (stable (history old.disk))) new.checkpoint new.log held coming settled.after
+      abbrev held : (held : List (List Judged)) × (coming : List Judged) × StandsAs after_it (length (stable (g.history old.disk))) new.checkpoint new.log held coming settled.after
       held =
-          settle n (length (stable (history old.disk))) old.checkpoint new.checkpoint old.log on.synced new.log there.blocks there.sealed there.states settled.after holds.node (ap (λ (s : Standing). s.stage) holds.facts) there.stands settled.syncs
+          settle n (length (stable (g.history old.disk))) old.checkpoint new.checkpoint old.log on.synced new.log there.blocks there.sealed there.states settled.after holds.node (ap (λ (s : Standing). s.stage) holds.facts) there.stands settled.syncs
           on.checkpoint on.states on.synced_is on.syncs on.log on.later
 
       -- where the base then is
@@ -242,10 +244,10 @@ module _ {D : Type 0} (honest : D → Type 0) (history : D → History) (size fa
           let left = versions_left follow old.checkpoint n.base.position (passed n.facts) n.items old.kept new.kept at_base position there.versions (is_opening old.checkpoint.stage) refl pruned in
           subst (λ i. AreVersionsOf i (map effect_of after_it.items) new.kept) (sym (held.2.checkpoint.base.position ∙ ap (λ (c : Checkpoint). c.base.position) on.checkpoint ∙ position)) left
 
-      there_after : Standing_so history after_it new
+      there_after : Standing_so g after_it new
       there_after = record {
         states = settled.after;
-        assigns = subst (λ (k : Layout). Assigns k (history new.disk) settled.after) (sym (h.layout ∙ h.engine.layout)) (ok_of answer ok settled.reaches.ok);
+        assigns = subst (λ (k : Layout). Assigns k (g.history new.disk) settled.after) (sym (h.layout ∙ h.engine.layout)) (ok_of answer ok settled.reaches.ok);
         blocks = held.0;
         sealed = held.1;
         stands = subst (λ k. StandsAs after_it k new.checkpoint new.log held.0 held.1 settled.after) (sym size_stays) held.2;
@@ -258,7 +260,7 @@ module _ {D : Type 0} (honest : D → Type 0) (history : D → History) (size fa
           index_small : index_of old.log < old.log.cells
           index_small = mod_below old.log.next old.log.cells (omega (arith, there.stands.log_is.some, there.stands.log_is.cells))
 
-      pub sync_holds : (m : Node) × Steps n to_sync (Synced replies) m × Holds honest history failures m new
+      pub sync_holds : (m : Node) × Steps n to_sync (Synced replies) m × Holds g m new
       sync_holds = (
         after_it,
         steps,
@@ -267,7 +269,7 @@ module _ {D : Type 0} (honest : D → Type 0) (history : D → History) (size fa
           facts = ap (λ (s : Standing). after s to_sync (found n to_sync)) holds.facts ∙ sym (facts_after of_log replies (found n to_sync) ok on);
           node = is_node;
           runs = λ still. there_after;
-          images = fronts_of law after_it (history new.disk) (length (stable (history old.disk))) new.checkpoint new.log held.0 held.1 settled.after is_node held.2 size_stays
-              (λ image here. subst (λ (p : Setting). Allowed (layout_of p) settled.after (reading_of (layout_of p) image)) (sym on.params) (reads (places old) (history new.disk) settled.after image (ok_of answer ok settled.reaches.ok) here));
+          images = fronts_of law after_it (g.history new.disk) (length (stable (g.history old.disk))) new.checkpoint new.log held.0 held.1 settled.after is_node held.2 size_stays
+              (λ image here. subst (λ (p : Setting). Allowed (layout_of p) settled.after (reading_of (layout_of p) image)) (sym on.params) (reads (places old) (g.history new.disk) settled.after image (ok_of answer ok settled.reaches.ok) here));
         },
       )

@@ -7,8 +7,8 @@ use Rattle.rep_types.specs.Windows.{Window}
 use Rattle.rep_types.specs.Items.{IsWithin}
 use Rattle.rep_types.specs.Settings.{Setting}
 use Rattle.rep_cert.specs.Holdings.{Holding, IsAskable, Admits, window_of, made_at}
-use Rattle.rep_disk.specs.History.{History}
-use Rattle.rep_disk.specs.Calls.{IsCall}
+use Rattle.rep_disk.specs.declared.disk.Disk.{Ghosts}
+use Rattle.rep_disk.specs.Devices.{Calls}
 use Rattle.rep_layout.specs.Windows.{IsWindowAt}
 use Rattle.rep_versions.specs.Versions.{Kept, ArePages}
 use Rattle.rep_log.specs.Standing.{Standing as Log}
@@ -49,11 +49,11 @@ pub record Begins (h : Holding) (log : Log) (kept : Kept) (old new : Checkpoint)
   pub refused : IfErr result (λ e. (new ≡ old) × (((e ≡ NotDue) × (nat_le (durable_of log) old.base.position ≡ true)) ⊎ ((e ≡ OutOfMemory) × (nat_le (durable_of log) old.base.position ≡ false))))
 
 -- A checkpoint under way went on by a write, or was refused. Where the device failed, the engine is stopped.
-pub record WentOn {D : Type 0} (size failures : D → ℕ) (honest : D → Type 0) (history : D → History) (old new : Engine D) (result : Result (Unit {0}) Refusal) : Type 0 where
-  pub call : IsCall size failures honest old.disk new.disk (fault_of result)
+pub record WentOn {D : Type 0} (g : Ghosts D) (old new : Engine D) (result : Result (Unit {0}) Refusal) : Type 0 where
+  pub call : Calls g old.disk new.disk (fault_of result)
   pub rest : new ≡ record old { disk = new.disk; checkpoint = new.checkpoint; halted = halted_by old.log.phase result }
   pub refused : IfSome (next_refusal old.layout old.checkpoint) (λ e. IsRefused e old.checkpoint new.checkpoint old.disk new.disk result)
-  pub goes : next_refusal old.layout old.checkpoint ≡ None → GoesOn honest history old.layout old.checkpoint new.checkpoint old.disk new.disk result
+  pub goes : next_refusal old.layout old.checkpoint ≡ None → GoesOn g old.layout old.checkpoint new.checkpoint old.disk new.disk result
   pub unchanged : OnErr result (new.checkpoint ≡ old.checkpoint)
 
 -- Each window that the certifier can be asked for can be written.

@@ -8,8 +8,9 @@ use Rattle.rep_types.specs.declared.refusal.Part.{Part}
 use Rattle.rep_types.specs.Settings.{IsRow}
 use Rattle.rep_types.specs.Windows.{Window as Kept}
 use Rattle.rep_record.specs.Blocks.{Contents, IsBlock, block_bytes}
+use Rattle.rep_disk.specs.declared.disk.Disk.{Ghosts}
 use Rattle.rep_disk.specs.History.{History, IsImage}
-use Rattle.rep_disk.specs.Calls.{IsCall}
+use Rattle.rep_disk.specs.Devices.{Calls, SameHistory}
 use Rattle.rep_layout.specs.declared.place.Layout.{Layout}
 use Rattle.rep_layout.specs.declared.place.Slot.{Slot}
 use Rattle.rep_layout.specs.declared.place.Place.TheVariants.{Window as in_window_area}
@@ -28,15 +29,15 @@ use Rattle.rep_log.specs.Moves.{fault_of}
 use Rattle.rep_log.specs.Standing.{Standing as Log}
 use Rattle.rep_log.specs.Tail.{Stand, Shows, records_of}
 use Rattle.rep_steps.specs.Nodes.{Node}
-use Rattle.rep_engine.specs.Engines.{Engine}
+use Rattle.rep_engine.specs.Engines.{Engine, OnlyAsks}
 use Rattle.rep_engine.specs.Reading.{halted_by}
 
 -- The device is asked, and nothing else changes but whether the engine is stopped: a stopped engine refuses, and one that the device
 -- fails is stopped. What isn't of its form is refused as corrupt.
-pub record Asks {D T : Type 0} (size failures : D → ℕ) (honest : D → Type 0) (history : D → History) (part : Part) (old new : Engine D) (result : Result T Refusal) : Type 0 where
-  pub call : IsCall size failures honest old.disk new.disk (fault_of result)
-  pub same : honest old.disk → history new.disk ≡ history old.disk
-  pub rest : new ≡ record old { disk = new.disk; halted = new.halted }
+pub record Asks {D T : Type 0} (g : Ghosts D) (part : Part) (old new : Engine D) (result : Result T Refusal) : Type 0 where
+  pub call : Calls g old.disk new.disk (fault_of result)
+  pub same : SameHistory g old.disk new.disk
+  pub rest : OnlyAsks old new
   pub stopped : IfSome old.halted (λ _. (result ≡ Err Stopped) × (new ≡ old))
   pub running : old.halted ≡ None → (new.halted ≡ halted_by old.log.phase result) × IfErr result (λ e. (e ≡ DiskFault) ⊎ (e ≡ Corrupt part))
 

@@ -10,6 +10,7 @@ use Rattle.rep_types.specs.declared.limits.TheConstants.{MAX_SEQNO}
 use Rattle.rep_record.specs.declared.limits.TheConstants.{MAX_RECORDS}
 use Rattle.rep_record.specs.Blocks.{SeqnosFrom}
 use Rattle.rep_record.specs.Fronts.{fitting}
+use Rattle.rep_disk.specs.declared.disk.Disk.{Ghosts}
 use Rattle.rep_disk.specs.History.{History}
 use Rattle.rep_layout.specs.declared.place.Layout.{Layout}
 use Rattle.rep_layout.specs.declared.place.Place.{Place}
@@ -36,9 +37,17 @@ pub record Engine (D : Type 0) : Type 0 where
   pub block : List Judged
   pub halted : Option Phase
 
+-- Only the device was asked: what else the engine holds is as it was, but for whether the device's failure stopped it.
+abbrev pub OnlyAsks : {D : Type 0} → Engine D → Engine D → Type 0
+OnlyAsks old new = new ≡ record old { disk = new.disk; halted = new.halted }
+
+-- The device failed, which stopped the engine: all else is as it was.
+abbrev pub Halts : {D : Type 0} → Engine D → Engine D → Type 0
+Halts old new = new ≡ record old { disk = new.disk; halted = Some old.log.phase }
+
 -- While the device has not failed, the pool agrees with it, if it is honest.
-abbrev pub PoolAgrees : {D : Type 0} → (D → Type 0) → (D → History) → Layout → Checkpoint → D → Option Phase → Pooled → Type 0
-PoolAgrees honest history l c disk halted pages = halted ≡ None → IsPooled honest history c.base.params.rows l disk pages
+abbrev pub PoolAgrees : {D : Type 0} → Ghosts D → Layout → Checkpoint → D → Option Phase → Pooled → Type 0
+PoolAgrees g l c disk halted pages = halted ≡ None → IsPooled g c.base.params.rows l disk pages
 
 -- No write that failed lies in any place.
 abbrev pub AreReadable : Layout → History → Type 0
@@ -67,8 +76,8 @@ abbrev pub durable_of : Log → ℕ
 durable_of log = log.seqno - 1
 
 -- The facts of an engine: those of a replica in which nothing waits but what the engine has accepted.
-abbrev pub facts_of : {D : Type 0} → (D → ℕ) → Engine D → Standing
-facts_of failures e = record {
+abbrev pub facts_of : {D : Type 0} → Ghosts D → Engine D → Standing
+facts_of g e = record {
   uuid = e.checkpoint.base.uuid;
   setting = e.checkpoint.base.params;
   base = e.checkpoint.base.position;
@@ -78,7 +87,7 @@ facts_of failures e = record {
   next = e.log.next;
   start = e.log.start;
   stage = stage_of e.checkpoint;
-  failures = failures e.disk;
+  failures = g.failures e.disk;
   stopped = is_some e.halted;
 }
 

@@ -3,7 +3,8 @@ use Rattle.std.specs.Prelude.{◌≡◌, ℕ, List, ◌++◌, length, map, Optio
 use Rattle.rep_types.specs.declared.judged.Judged.{Judged}
 use Rattle.rep_types.specs.declared.reply.Reply.{Reply}
 use Rattle.rep_types.specs.declared.refusal.Refusal.{Refusal}
-use Rattle.rep_disk.specs.History.{History, stable, IsImage}
+use Rattle.rep_disk.specs.declared.disk.Disk.{Ghosts}
+use Rattle.rep_disk.specs.History.{stable, IsImage}
 use Rattle.rep_cells.specs.States.{States}
 use Rattle.rep_cells.specs.Known.{Assigns}
 use Rattle.rep_versions.specs.Following.{AreVersionsOf, effect_of}
@@ -18,28 +19,28 @@ use Rattle.rep_engine.specs.Engines.{Engine, facts_of}
 
 -- While the device has not failed: what is known of its places is that the node stands there; the versions are those of the items
 -- behind the base; and the log knows which cells stand open.
-pub record Stands {D : Type 0} (history : D → History) (n : Node) (e : Engine D) : Type 0 where
+pub record Stands {D : Type 0} (g : Ghosts D) (n : Node) (e : Engine D) : Type 0 where
   pub states : States
-  pub assigns : Assigns e.layout (history e.disk) states
+  pub assigns : Assigns e.layout (g.history e.disk) states
   pub blocks : List (List Judged)
   pub sealed : List Judged
-  pub stands : StandsAs n (length (stable (history e.disk))) e.checkpoint e.log blocks sealed states
+  pub stands : StandsAs n (length (stable (g.history e.disk))) e.checkpoint e.log blocks sealed states
   pub versions : AreVersionsOf n.base.position (map effect_of n.items) e.kept
   pub gates : (i : ℕ) → n.gates i ≡ stands_at e.log i
 
 -- The engine stands for the node, on an honest device. Each image of the device means a front of the node that has what is durable;
 -- a stopped engine keeps that, and no more.
-pub record Holds {D : Type 0} (honest : D → Type 0) (history : D → History) (failures : D → ℕ) (n : Node) (e : Engine D) : Type 0 where
-  pub is_honest : honest e.disk
-  pub facts : n.facts ≡ facts_of failures e
+pub record Holds {D : Type 0} (g : Ghosts D) (n : Node) (e : Engine D) : Type 0 where
+  pub is_honest : g.honest e.disk
+  pub facts : n.facts ≡ facts_of g e
   pub node : IsNode n
-  pub runs : e.halted ≡ None → Stands history n e
-  pub images : (image : List ℕ) → IsImage (history e.disk) image → IsFrontAt Means n image
+  pub runs : e.halted ≡ None → Stands g n e
+  pub images : (image : List ℕ) → IsImage (g.history e.disk) image → IsFrontAt Means n image
 
 -- More is so while it isn't stopped: each image means a front that ends exactly at what is durable, or, where a log's gate is opening,
 -- at that with its block. So what was only accepted, and what was only written, doesn't come back.
-abbrev pub LeavesItsEnds : {D : Type 0} → (D → Type 0) → (D → History) → (D → ℕ) → Engine D → Type 0
-LeavesItsEnds honest history failures e = (n : Node) → Holds honest history failures n e → e.halted ≡ None → (image : List ℕ) → IsImage (history e.disk) image → IsEndOf Means n image
+abbrev pub LeavesItsEnds : {D : Type 0} → Ghosts D → Engine D → Type 0
+LeavesItsEnds g e = (n : Node) → Holds g n e → e.halted ≡ None → (image : List ℕ) → IsImage (g.history e.disk) image → IsEndOf Means n image
 
 -- ---- what the calls answer, as a replica does
 

@@ -6,7 +6,8 @@ use Rattle.rep_types.specs.declared.limits.TheConstants.{MAX_SEQNO}
 use Rattle.rep_types.specs.Order.{State}
 use Rattle.rep_types.specs.Windows.{Window}
 use Rattle.rep_forms.specs.Forms.{IsPart}
-use Rattle.rep_disk.specs.History.{History, stable, IsImage}
+use Rattle.rep_disk.specs.declared.disk.Disk.{Ghosts}
+use Rattle.rep_disk.specs.History.{stable, IsImage}
 use Rattle.rep_disk.specs.Moments.{LeavesOnly}
 use Rattle.rep_layout.specs.declared.super_body.SuperBody.{SuperBody}
 use Rattle.rep_layout.specs.Supers.{IsNil}
@@ -68,12 +69,12 @@ pub record IsBeside (c : Checkpoint) (log : Log) (block : List Judged) (i : Comi
 
 -- While the device has not failed: what is known of its places is that the node stands there, and the snapshot beside it, which brings
 -- y; the versions are those of the items behind the base; and the log knows which cells stand open.
-pub record StandsBoth {D : Type 0} (history : D → History) (n : Node) (y : State) (e : Engine D) (i : Coming) : Type 0 where
+pub record StandsBoth {D : Type 0} (g : Ghosts D) (n : Node) (y : State) (e : Engine D) (i : Coming) : Type 0 where
   pub states : States
-  pub assigns : Assigns e.layout (history e.disk) states
+  pub assigns : Assigns e.layout (g.history e.disk) states
   pub blocks : List (List Judged)
   pub sealed : List Judged
-  pub installs : InstallsAs n (length (stable (history e.disk))) e.checkpoint i y e.log blocks sealed states
+  pub installs : InstallsAs n (length (stable (g.history e.disk))) e.checkpoint i y e.log blocks sealed states
   pub versions : AreVersionsOf n.base.position (map effect_of n.items) e.kept
   pub gates : (j : ℕ) → n.gates j ≡ stands_at e.log j
 
@@ -87,17 +88,17 @@ MeansEither n b y image = IsFrontAt Means n image ⊎ Means image (snapshot_of b
 
 -- The engine stands for the node, on an honest device, and beside its base the snapshot is as far as it says, and brings y. Each image
 -- of the device means a front of the node that has what is durable, or, while the snapshot's superblock opens, the snapshot.
-pub record HoldsBoth {D : Type 0} (honest : D → Type 0) (history : D → History) (failures : D → ℕ) (n : Node) (y : State) (e : Engine D) (i : Coming) : Type 0 where
-  pub is_honest : honest e.disk
-  pub facts : n.facts ≡ facts_of failures e
+pub record HoldsBoth {D : Type 0} (g : Ghosts D) (n : Node) (y : State) (e : Engine D) (i : Coming) : Type 0 where
+  pub is_honest : g.honest e.disk
+  pub facts : n.facts ≡ facts_of g e
   pub node : IsNode n
-  pub runs : e.halted ≡ None → StandsBoth history n y e i
-  pub images : (image : List ℕ) → IsImage (history e.disk) image → IsFrontAt Means n image ⊎ ((i.part ≡ SuperOpening) × Means image (snapshot_of i.next.super y))
+  pub runs : e.halted ≡ None → StandsBoth g n y e i
+  pub images : (image : List ℕ) → IsImage (g.history e.disk) image → IsFrontAt Means n image ⊎ ((i.part ≡ SuperOpening) × Means image (snapshot_of i.next.super y))
 
 -- What is left where the device failed while the snapshot took the base's place: an image means either, whole.
-pub record HoldsEither {D : Type 0} (honest : D → Type 0) (history : D → History) (n : Node) (b : SuperBody) (y : State) (e : Engine D) : Type 0 where
-  pub is_honest : honest e.disk
-  pub images : (image : List ℕ) → IsImage (history e.disk) image → MeansEither n b y image
+pub record HoldsEither {D : Type 0} (g : Ghosts D) (n : Node) (b : SuperBody) (y : State) (e : Engine D) : Type 0 where
+  pub is_honest : g.honest e.disk
+  pub images : (image : List ℕ) → IsImage (g.history e.disk) image → MeansEither n b y image
 
 -- the node where the device failed, at this count of its failures
 abbrev pub halted_at : ℕ → Standing → Standing
@@ -108,10 +109,10 @@ halted_node failures n = record n { facts = halted_at failures n.facts }
 
 -- A step of an installation that makes one snapshot of another: where it succeeds, both stand as it says; where it fails, each image
 -- means either; and so it does at each moment of it.
-pub record Goes {D T E : Type 0} (honest : D → Type 0) (history : D → History) (failures : D → ℕ) (n : Node) (y : State) (old new : Engine D) (i k : Coming) (result : Result T E) : Type 0 where
-  pub holds : OnOk result (HoldsBoth honest history failures n y new k)
-  pub either : OnErr result (HoldsEither honest history n i.next.super y new)
-  pub leaves : LeavesOnly (history old.disk) (history new.disk) (MeansEither n i.next.super y)
+pub record Goes {D T E : Type 0} (g : Ghosts D) (n : Node) (y : State) (old new : Engine D) (i k : Coming) (result : Result T E) : Type 0 where
+  pub holds : OnOk result (HoldsBoth g n y new k)
+  pub either : OnErr result (HoldsEither g n i.next.super y new)
+  pub leaves : LeavesOnly (g.history old.disk) (g.history new.disk) (MeansEither n i.next.super y)
 
 -- ---- where it takes the base's place
 
@@ -123,7 +124,7 @@ pub record IsTaken {D : Type 0} (i : Coming) (old new : Engine D) : Type 0 where
 
 -- The snapshot takes the base's place: where it succeeds, the engine stands for the node that the snapshot makes; where it fails, each
 -- image means either; and so it does at each moment of it.
-pub record TakesPlace {D T E : Type 0} (honest : D → Type 0) (history : D → History) (failures : D → ℕ) (n : Node) (y : State) (i : Coming) (old new : Engine D) (result : Result T E) : Type 0 where
-  pub holds : OnOk result (Holds honest history failures (installed n i y) new)
-  pub either : OnErr result (HoldsEither honest history n i.next.super y new)
-  pub leaves : LeavesOnly (history old.disk) (history new.disk) (MeansEither n i.next.super y)
+pub record TakesPlace {D T E : Type 0} (g : Ghosts D) (n : Node) (y : State) (i : Coming) (old new : Engine D) (result : Result T E) : Type 0 where
+  pub holds : OnOk result (Holds g (installed n i y) new)
+  pub either : OnErr result (HoldsEither g n i.next.super y new)
+  pub leaves : LeavesOnly (g.history old.disk) (g.history new.disk) (MeansEither n i.next.super y)

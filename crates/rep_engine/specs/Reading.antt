@@ -4,8 +4,8 @@ use Rattle.rep_types.specs.declared.key.Key.{Key}
 use Rattle.rep_types.specs.declared.refusal.Refusal.{Refusal}
 use Rattle.rep_types.specs.declared.refusal.Refusal.TheVariants.{DiskFault, Corrupt}
 use Rattle.rep_types.specs.declared.refusal.Part.TheVariants.{Pages}
-use Rattle.rep_disk.specs.History.{History}
-use Rattle.rep_disk.specs.Calls.{IsCall}
+use Rattle.rep_disk.specs.declared.disk.Disk.{Ghosts}
+use Rattle.rep_disk.specs.Devices.{Calls, SameHistory}
 use Rattle.rep_layout.specs.declared.super_body.SuperBody.{SuperBody}
 use Rattle.rep_layout.specs.Rows.{row_place}
 use Rattle.rep_cells.specs.Readings.{Reading}
@@ -23,11 +23,11 @@ halted_by phase (Err DiskFault) = Some phase
 halted_by phase (Err e) = None
 
 -- A row is read of the base: the device is asked, and nothing else changes, but that a failure stops the engine.
-pub record ReadsRow {D : Type 0} (size failures : D → ℕ) (honest : D → Type 0) (history : D → History) (key : Key) (old new : Engine D) (result : Result (Option (List ℕ)) Refusal) : Type 0 where
-  pub call : IsCall size failures honest old.disk new.disk (fault_of result)
-  pub same : honest old.disk → history new.disk ≡ history old.disk
-  pub read : ReadsBase honest history old.layout old.checkpoint.base key old.disk result
-  pub spelled : ReadsAsSpelled honest history old.layout old.checkpoint.base key old.disk result
+pub record ReadsRow {D : Type 0} (g : Ghosts D) (key : Key) (old new : Engine D) (result : Result (Option (List ℕ)) Refusal) : Type 0 where
+  pub call : Calls g old.disk new.disk (fault_of result)
+  pub same : SameHistory g old.disk new.disk
+  pub read : ReadsBase g old.layout old.checkpoint.base key old.disk result
+  pub spelled : ReadsAsSpelled g old.layout old.checkpoint.base key old.disk result
   pub refused : IfErr result (λ e. (e ≡ DiskFault) ⊎ (e ≡ Corrupt Pages))
   pub after : new ≡ record old { disk = new.disk; halted = halted_by old.log.phase result }
 

@@ -6,7 +6,8 @@ use Rattle.rep_types.specs.declared.refusal.Refusal.{Refusal}
 use Rattle.rep_types.specs.declared.refusal.Refusal.TheVariants.{DiskFault, Corrupt}
 use Rattle.rep_types.specs.declared.refusal.Part.TheVariants.{Pages}
 use Rattle.rep_types.specs.Settings.{IsRow}
-use Rattle.rep_disk.specs.History.{History, seen}
+use Rattle.rep_disk.specs.declared.disk.Disk.{Ghosts}
+use Rattle.rep_disk.specs.History.{seen}
 use Rattle.rep_layout.specs.declared.place.Layout.{Layout}
 use Rattle.rep_layout.specs.declared.place.Place.TheVariants.{Page}
 use Rattle.rep_layout.specs.declared.super_body.SuperBody.{SuperBody}
@@ -51,12 +52,12 @@ coming_in Full block sealed = sealed
 
 -- The log's next write: the log stands so after it, also where it failed; only the device's fault is refused; and on an honest
 -- device the log holds during the call and after it what it held, with this block in writing.
-pub record WritesNext {D T : Type 0} (honest : D → Type 0) (history : D → History) (l : Layout) (step : Step) (block : List Judged) (before after : Standing) (old new : D) (result : Result T Refusal) : Type 0 where
+pub record WritesNext {D T : Type 0} (g : Ghosts D) (l : Layout) (step : Step) (block : List Judged) (before after : Standing) (old new : D) (result : Result T Refusal) : Type 0 where
   pub stands : after ≡ written_in step (length block) before
   pub fault : IfErr result (λ e. e ≡ DiskFault)
   pub steps :
-      honest old → (s : States) (first : ℕ) (blocks : List (List Judged)) (sealed : List Judged) → Assigns l (history old) s → LogIs l before first blocks sealed s
-      → Steps l (history old) (history new) s after first blocks (coming_in step block sealed) result
+      g.honest old → (s : States) (first : ℕ) (blocks : List (List Judged)) (sealed : List Judged) → Assigns l (g.history old) s → LogIs l before first blocks sealed s
+      → Steps l (g.history old) (g.history new) s after first blocks (coming_in step block sealed) result
 
 -- what a sync leaves of the block, and whose items it makes durable: those of a block whose gate was opened
 abbrev pub left_of : Phase → List Judged → List Judged
@@ -73,8 +74,8 @@ PrunesIf true position before after = IsPruned position before after
 PrunesIf false position before after = after ≡ before
 
 -- What is read of a base that stands on an honest device is its content, and none of its pages is corrupt.
-abbrev pub ReadsBase : {D : Type 0} → (D → Type 0) → (D → History) → Layout → SuperBody → Key → D → Result (Option (List ℕ)) Refusal → Type 0
-ReadsBase honest history l b key old result = honest old → (s : States) (content : Key → Option (List ℕ)) → Assigns l (history old) s
+abbrev pub ReadsBase : {D : Type 0} → Ghosts D → Layout → SuperBody → Key → D → Result (Option (List ℕ)) Refusal → Type 0
+ReadsBase g l b key old result = g.honest old → (s : States) (content : Key → Option (List ℕ)) → Assigns l (g.history old) s
     → HaveContent b (λ number slot body. s (Page number slot) ≡ Stable body) content
     → IfOk result (λ value. value ≡ content key) × (result ≢ Err (Corrupt Pages))
 
@@ -89,6 +90,6 @@ pub record IsRowAsSpelled (r : Reading) (b : SuperBody) (key : Key) (result : Re
   pub corrupt : result ≡ Err (Corrupt Pages) → IsRow b.params.rows key × IsBadPage r b (row_place b.params.rows key).page
 
 -- So it is of an honest device, whatever stands there, where no write failed in the slot of the row's page.
-abbrev pub ReadsAsSpelled : {D : Type 0} → (D → Type 0) → (D → History) → Layout → SuperBody → Key → D → Result (Option (List ℕ)) Refusal → Type 0
-ReadsAsSpelled honest history l b key old result =
-    honest old → IsPageReadable l (history old) b (row_place b.params.rows key).page → IsRowAsSpelled (reading_of l (seen (history old))) b key result
+abbrev pub ReadsAsSpelled : {D : Type 0} → Ghosts D → Layout → SuperBody → Key → D → Result (Option (List ℕ)) Refusal → Type 0
+ReadsAsSpelled g l b key old result =
+    g.honest old → IsPageReadable l (g.history old) b (row_place b.params.rows key).page → IsRowAsSpelled (reading_of l (seen (g.history old))) b key result

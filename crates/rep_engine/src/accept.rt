@@ -116,9 +116,9 @@ impl<D: Disk> Engine<D> {
     /// something to take; engine and backlog are then as they were.
     #[tactic(auto, using(crate::proofs::Accepts::gathering_some))]
     pub fn accept(&mut self, backlog: &mut Backlog) -> Result<u16, Refusal>
-        requires { ComeNext (facts_of D.failures self.old) backlog.old }
+        requires { ComeNext (facts_of D.Disk self.old) backlog.old }
         ensures count { IfOk result (λ count. count ≡ accepted_in self.old.log.phase self.old.block backlog.old) }
-        ensures facts { IfOk result (λ count. facts_of D.failures self.new ≡ record (facts_of D.failures self.old) { ahead = self.old.block ++ take count backlog.old }) }
+        ensures facts { IfOk result (λ count. facts_of D.Disk self.new ≡ record (facts_of D.Disk self.old) { ahead = self.old.block ++ take count backlog.old }) }
         ensures backlog { IfOk result (λ count. backlog.new ≡ drop count backlog.old) }
         ensures rest { self.new ≡ record (self.old) { kept = self.new.kept; block = self.new.block } }
         ensures block { IfOk result (λ count. self.new.block ≡ self.old.block ++ take count backlog.old) }
@@ -126,7 +126,7 @@ impl<D: Disk> Engine<D> {
         ensures running { OnOk result (self.old.halted ≡ None) }
         ensures refused { IfErr result (λ e. ((e ≡ is_stopped) × (is_some self.old.halted ≡ true)) ⊎ ((e ≡ OutOfMemory) × (self.old.halted ≡ None) × (is_gathering self.old.log.phase ≡ true))) }
         ensures unchanged { OnErr result ((self.new ≡ self.old) × (backlog.new ≡ backlog.old)) }
-        ensures holds { IfOk result (λ count. (n : Node) → Holds D.honest D.history D.failures n self.old → AreJudgedFrom n.facts.setting (reached n.facts.setting n.base n.items) (take count backlog.old) → Holds D.honest D.history D.failures (with_items (take count backlog.old) n) self.new) }
+        ensures holds { IfOk result (λ count. (n : Node) → Holds D.Disk n self.old → AreJudgedFrom n.facts.setting (reached n.facts.setting n.base n.items) (take count backlog.old) → Holds D.Disk (with_items (take count backlog.old) n) self.new) }
     {
         self.running()?;
         add_is_taken_back();
@@ -153,7 +153,7 @@ impl<D: Disk> Engine<D> {
     /// Why the next block would not begin with these items.
     fn due_at_rest(&self, backlog: &Backlog) -> Option<Refusal>
         requires { self.now.log.phase ≡ Phase.Resting }
-        ensures { result ≡ block_refusal (record (facts_of D.failures self.now) { ahead = self.now.block ++ take (fitting self.now.block backlog.now) backlog.now }) }
+        ensures { result ≡ block_refusal (record (facts_of D.Disk self.now) { ahead = self.now.block ++ take (fitting self.now.block backlog.now) backlog.now }) }
     {
         if self.has_nothing(backlog) {
             return Some(Refusal::NotDue);
@@ -163,7 +163,7 @@ impl<D: Disk> Engine<D> {
 
     /// What `log` would refuse once `accept` had run, without want of memory.
     pub fn due(&self, backlog: &Backlog) -> Option<Refusal>
-        ensures { result ≡ refusal (record (facts_of D.failures self.now) { ahead = self.now.block ++ take (accepted_in self.now.log.phase self.now.block backlog.now) backlog.now }) to_log }
+        ensures { result ≡ refusal (record (facts_of D.Disk self.now) { ahead = self.now.block ++ take (accepted_in self.now.log.phase self.now.block backlog.now) backlog.now }) to_log }
     {
         fronts_are_determined();
         if self.halted.is_some() {

@@ -3,8 +3,8 @@
 ghost use Rattle.std.specs.Prelude.{◌≡◌, ◌≢◌, ◌⊎◌, ◌<◌, if◌then◌else◌, None, Some, Err, IfErr, is_some};
 ghost use Rattle.rep_types.specs.declared.refusal.Refusal.TheVariants.{DiskFault, NotDue, Stopped};
 ghost use Rattle.rep_cert.specs.Holdings.{IsAskable, window_of};
-ghost use Rattle.rep_disk.specs.Calls.{IsCall};
 ghost use Rattle.rep_disk.specs.Moments.{LeavesOnly};
+ghost use Rattle.rep_disk.specs.Devices.{Calls};
 ghost use Rattle.rep_log.specs.Moves.{fault_of};
 ghost use Rattle.rep_steps.specs.declared.event.Event.TheVariants.{Check as to_check};
 ghost use Rattle.rep_steps.specs.Moves.{Moves};
@@ -15,7 +15,7 @@ ghost use Rattle.rep_checkpoint.specs.declared.stage.Stage.TheVariants.{Off};
 ghost use Rattle.rep_checkpoint.specs.Moves.{CanBegin};
 ghost use Rattle.rep_checkpoint.specs.Laws.{TheCheckpointIsApart, TheStageIsTheFacts};
 ghost use Rattle.rep_checkpoint.specs.Nodes.{NodesLeaveTheirFronts, VersionsLeadToTheState};
-ghost use Rattle.rep_engine.specs.Engines.{facts_of, durable_of};
+ghost use Rattle.rep_engine.specs.Engines.{facts_of, durable_of, Halts};
 ghost use Rattle.rep_engine.specs.Holding.{Holds, wrote};
 ghost use Rattle.rep_engine.specs.Checking.{HoldsWindow, Begins, WentOn, checked};
 
@@ -97,7 +97,7 @@ impl<D: Disk> Engine<D> {
     /// Takes a checkpoint that is under way on by its next write. Where the device fails, the engine is stopped.
     fn go_on(&mut self) -> Result<(), Refusal>
         requires { self.old.halted ≡ None }
-        ensures { WentOn D.size D.failures D.honest D.history self.old self.new result }
+        ensures { WentOn D.Disk self.old self.new result }
     {
         pools_go_on();
         let outcome = self.checkpoint.next(&mut self.cells);
@@ -114,17 +114,17 @@ impl<D: Disk> Engine<D> {
     /// be flushed, or a write awaits its sync; and with `DiskFault` where the device failed: the engine is then stopped, and
     /// otherwise as it was.
     pub fn check_next(&mut self) -> Result<(), Refusal>
-        ensures call { IsCall D.size D.failures D.honest self.old.disk self.new.disk (fault_of result) }
+        ensures call { Calls D.Disk self.old.disk self.new.disk (fault_of result) }
         // Nothing else changes, and where it is refused by anything but the device, nothing does.
         ensures rest { self.new ≡ record (self.old) { disk = self.new.disk; checkpoint = self.new.checkpoint; halted = self.new.halted } }
         ensures params { self.new.checkpoint.base.params ≡ self.old.checkpoint.base.params }
         ensures unchanged { IfErr result (λ e. (e ≡ DiskFault) ⊎ (self.new ≡ self.old)) }
-        ensures fault { IfErr result (λ e. e ≡ DiskFault → self.new ≡ record (self.old) { disk = self.new.disk; halted = Some self.old.log.phase }) }
+        ensures fault { IfErr result (λ e. e ≡ DiskFault → Halts self.old self.new) }
         // It begins none, and takes one that is under way on as a check does.
         ensures none { self.old.checkpoint.stage ≡ Off → result ≡ Err (if is_some self.old.halted then Stopped else NotDue) }
-        ensures moves { self.old.checkpoint.stage ≢ Off → Moves (facts_of D.failures self.old) to_check (wrote result) (facts_of D.failures self.new) }
-        ensures steps { self.old.checkpoint.stage ≢ Off → (n : Node) → Holds D.honest D.history D.failures n self.old → (m : Node) × Steps n to_check (wrote result) m × Holds D.honest D.history D.failures m self.new }
-        ensures leaves { (n : Node) → Holds D.honest D.history D.failures n self.old → LeavesOnly (D.history self.old.disk) (D.history self.new.disk) (IsFrontAt Means n) }
+        ensures moves { self.old.checkpoint.stage ≢ Off → Moves (facts_of D.Disk self.old) to_check (wrote result) (facts_of D.Disk self.new) }
+        ensures steps { self.old.checkpoint.stage ≢ Off → (n : Node) → Holds D.Disk n self.old → (m : Node) × Steps n to_check (wrote result) m × Holds D.Disk m self.new }
+        ensures leaves { (n : Node) → Holds D.Disk n self.old → LeavesOnly (D.history self.old.disk) (D.history self.new.disk) (IsFrontAt Means n) }
     {
         self.running()?;
         checkpoints_go_on();
@@ -145,15 +145,15 @@ impl<D: Disk> Engine<D> {
     /// The certifier is asked for its window only where a checkpoint may begin: any other step takes any certifier.
     pub fn check(&mut self, certifier: &Certifier) -> Result<Option<u64>, Refusal>
         requires window { self.old.checkpoint.stage ≡ Off → HoldsWindow self.old.checkpoint.base.params (durable_of self.old.log) certifier.now.current }
-        ensures call { IsCall D.size D.failures D.honest self.old.disk self.new.disk (fault_of result) }
+        ensures call { Calls D.Disk self.old.disk self.new.disk (fault_of result) }
         // Nothing else changes, and where it is refused by anything but the device, nothing does.
         ensures rest { self.new ≡ record (self.old) { disk = self.new.disk; checkpoint = self.new.checkpoint; halted = self.new.halted } }
         ensures params { self.new.checkpoint.base.params ≡ self.old.checkpoint.base.params }
         ensures unchanged { IfErr result (λ e. (e ≡ DiskFault) ⊎ (self.new ≡ self.old)) }
-        ensures fault { IfErr result (λ e. e ≡ DiskFault → self.new ≡ record (self.old) { disk = self.new.disk; halted = Some self.old.log.phase }) }
-        ensures moves { Moves (facts_of D.failures self.old) to_check (checked result) (facts_of D.failures self.new) }
-        ensures steps { (n : Node) → Holds D.honest D.history D.failures n self.old → (self.old.checkpoint.stage ≡ Off → window_of certifier.now.current (durable_of self.old.log) ≡ window_at n n.facts.durable) → (m : Node) × Steps n to_check (checked result) m × Holds D.honest D.history D.failures m self.new }
-        ensures leaves { (n : Node) → Holds D.honest D.history D.failures n self.old → LeavesOnly (D.history self.old.disk) (D.history self.new.disk) (IsFrontAt Means n) }
+        ensures fault { IfErr result (λ e. e ≡ DiskFault → Halts self.old self.new) }
+        ensures moves { Moves (facts_of D.Disk self.old) to_check (checked result) (facts_of D.Disk self.new) }
+        ensures steps { (n : Node) → Holds D.Disk n self.old → (self.old.checkpoint.stage ≡ Off → window_of certifier.now.current (durable_of self.old.log) ≡ window_at n n.facts.durable) → (m : Node) × Steps n to_check (checked result) m × Holds D.Disk m self.new }
+        ensures leaves { (n : Node) → Holds D.Disk n self.old → LeavesOnly (D.history self.old.disk) (D.history self.new.disk) (IsFrontAt Means n) }
     {
         match self.checkpoint.step_due() {
             Step::Begin => {

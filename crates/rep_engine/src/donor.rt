@@ -51,7 +51,7 @@ impl<D: Disk> Engine<D> {
         index: u64,
         room: &'a mut [u8; LOG_BODY],
     ) -> Result<Option<BlockReader<'a>>, Refusal>
-        ensures asks { Asks D.size D.failures D.honest D.history in_log self.old self.new result }
+        ensures asks { Asks D.Disk in_log self.old self.new result }
         ensures none { IfOk result (λ found. is_some found ≡ nat_lt index (self.old.log.next - self.old.log.start)) }
         // And None is given there, whatever stands on the device.
         ensures behind { nat_lt index (self.old.log.next - self.old.log.start) ≡ false → self.old.halted ≡ None → result ≡ Ok None }
@@ -59,9 +59,9 @@ impl<D: Disk> Engine<D> {
         ensures fits { result ≢ Err Refusal.Stopped → self.old.log.next < 2 ^ 64 }
         // On any device what is given is a block of that number.
         ensures form { IfOk result (λ found. IfSome found (λ b. (b.cell ≡ self.old.log.start + index) × IsBlock b.cell b.records)) }
-        ensures holds { (n : Node) → Holds D.honest D.history D.failures n self.old → result ≢ Err Refusal.DiskFault → Holds D.honest D.history D.failures n self.new }
-        ensures block { (n : Node) → Holds D.honest D.history D.failures n self.old → IfOk result (λ found. IfSome found (λ b. IsTailBlock n self.old.layout (D.history self.old.disk) self.old.checkpoint.base self.old.log index b.records)) }
-        ensures whole { (n : Node) → Holds D.honest D.history D.failures n self.old → result ≢ Err (Corrupt in_log) }
+        ensures holds { (n : Node) → Holds D.Disk n self.old → result ≢ Err Refusal.DiskFault → Holds D.Disk n self.new }
+        ensures block { (n : Node) → Holds D.Disk n self.old → IfOk result (λ found. IfSome found (λ b. IsTailBlock n self.old.layout (D.history self.old.disk) self.old.checkpoint.base self.old.log index b.records)) }
+        ensures whole { (n : Node) → Holds D.Disk n self.old → result ≢ Err (Corrupt in_log) }
         // Whatever stands on an honest device: its bytes decide.
         ensures spelled { D.honest self.old.disk → IsBlockAsSpelled (reading_of self.old.layout (seen (D.history self.old.disk))) self.old.layout (self.old.log.start + index) result in_log }
     {
@@ -93,12 +93,12 @@ impl<D: Disk> Engine<D> {
         &mut self,
         room: &'a mut [u8; WINDOW_BODY],
     ) -> Result<WindowReader<'a>, Refusal>
-        ensures asks { Asks D.size D.failures D.honest D.history in_window self.old self.new result }
+        ensures asks { Asks D.Disk in_window self.old self.new result }
         // On any device what is given can be the window of the base.
         ensures form { IfOk result (λ w. (w ≡ beside self.old.checkpoint.base w.kept) × IsWindowBody self.old.checkpoint.base.params w) }
-        ensures holds { (n : Node) → Holds D.honest D.history D.failures n self.old → result ≢ Err Refusal.DiskFault → Holds D.honest D.history D.failures n self.new }
-        ensures window { (n : Node) → Holds D.honest D.history D.failures n self.old → IfOk result (λ w. w.kept ≡ n.base.kept) }
-        ensures whole { (n : Node) → Holds D.honest D.history D.failures n self.old → result ≢ Err (Corrupt in_window) }
+        ensures holds { (n : Node) → Holds D.Disk n self.old → result ≢ Err Refusal.DiskFault → Holds D.Disk n self.new }
+        ensures window { (n : Node) → Holds D.Disk n self.old → IfOk result (λ w. w.kept ≡ n.base.kept) }
+        ensures whole { (n : Node) → Holds D.Disk n self.old → result ≢ Err (Corrupt in_window) }
         // Whatever stands on an honest device: its bytes decide.
         ensures spelled { D.honest self.old.disk → IsWindowAsSpelled (reading_of self.old.layout (seen (D.history self.old.disk))) self.old.checkpoint.base result in_window }
     {
@@ -129,12 +129,12 @@ impl<D: Disk> Engine<D> {
     /// and with `Corrupt` of the pages where the base's page is not of its form, of its number, and of a position not above the base's:
     /// an honest device of a node shows no such page.
     pub fn base_page(&mut self, page: u32) -> Result<Option<Page>, Refusal>
-        ensures asks { Asks D.size D.failures D.honest D.history in_pages self.old self.new result }
+        ensures asks { Asks D.Disk in_pages self.old self.new result }
         ensures none { IfOk result (λ found. (found ≡ None → state_of_page self.old.checkpoint.base page ≡ Nowhere) × (state_of_page self.old.checkpoint.base page ≡ Nowhere → found ≡ None)) }
-        ensures holds { (n : Node) → Holds D.honest D.history D.failures n self.old → result ≢ Err Refusal.DiskFault → Holds D.honest D.history D.failures n self.new }
-        ensures page { (n : Node) → Holds D.honest D.history D.failures n self.old → IfOk result (λ found. IfSome found (IsBasePage self.old.checkpoint.base n.base.content page)) }
-        ensures absent { (n : Node) → Holds D.honest D.history D.failures n self.old → self.old.halted ≡ None → state_of_page self.old.checkpoint.base page ≡ Nowhere → HasNoRow self.old.checkpoint.base n.base.content page }
-        ensures whole { (n : Node) → Holds D.honest D.history D.failures n self.old → result ≢ Err (Corrupt in_pages) }
+        ensures holds { (n : Node) → Holds D.Disk n self.old → result ≢ Err Refusal.DiskFault → Holds D.Disk n self.new }
+        ensures page { (n : Node) → Holds D.Disk n self.old → IfOk result (λ found. IfSome found (IsBasePage self.old.checkpoint.base n.base.content page)) }
+        ensures absent { (n : Node) → Holds D.Disk n self.old → self.old.halted ≡ None → state_of_page self.old.checkpoint.base page ≡ Nowhere → HasNoRow self.old.checkpoint.base n.base.content page }
+        ensures whole { (n : Node) → Holds D.Disk n self.old → result ≢ Err (Corrupt in_pages) }
         // Whatever stands on an honest device: its bytes decide.
         ensures spelled { D.honest self.old.disk → IsBasePageAsSpelled (reading_of self.old.layout (seen (D.history self.old.disk))) self.old.checkpoint.base page result in_pages }
     {

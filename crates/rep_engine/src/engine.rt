@@ -4,8 +4,8 @@ ghost use Rattle.std.specs.Prelude.{◌≡◌, ◌≢◌, ◌⊎◌, ◌+◌, �
 ghost use Rattle.rep_types.specs.declared.refusal.Refusal.TheVariants.{OutOfMemory, DiskFault, LogFull, Stopped};
 ghost use Rattle.rep_types.specs.Replies.{reply_of};
 ghost use Rattle.rep_disk.specs.History.{Synced};
-ghost use Rattle.rep_disk.specs.Calls.{IsCall};
 ghost use Rattle.rep_disk.specs.Moments.{LeavesOnly};
+ghost use Rattle.rep_disk.specs.Devices.{Calls};
 ghost use Rattle.rep_cells.specs.Device.{disk_of, layout_of};
 ghost use Rattle.rep_steps.specs.declared.event.Event.TheVariants.{Log as to_log, Sync as to_sync};
 ghost use Rattle.rep_steps.specs.Standings.{delivered, gathered, block_refusal, log_refusal};
@@ -13,7 +13,7 @@ ghost use Rattle.rep_steps.specs.Moves.{Moves};
 ghost use Rattle.rep_steps.specs.Nodes.{Node, Steps};
 ghost use Rattle.rep_steps.specs.Images.{IsFrontAt};
 ghost use Rattle.rep_image.specs.Meanings.{Means};
-ghost use Rattle.rep_engine.specs.Engines.{IsEngine, AreReadable, facts_of, phase_at, durable_of, gtid_of};
+ghost use Rattle.rep_engine.specs.Engines.{IsEngine, AreReadable, facts_of, phase_at, durable_of, gtid_of, Halts};
 ghost use Rattle.rep_log.specs.Standing.{due_of};
 ghost use Rattle.rep_log.specs.Moves.{after_sync, started, fault_of, SyncsLog, StartsLater};
 ghost use Rattle.rep_checkpoint.specs.Moves.{after_sync as checkpoint_after, is_opening};
@@ -99,7 +99,7 @@ impl<D: Disk> Model for Engine<D> {
 
     ghost view = { λ e. record { disk = disk_of e.cells; layout = layout_of e.cells; checkpoint = e.checkpoint; log = e.log; kept = e.versions; block = e.block; halted = e.halted } };
 
-    ghost invariant = { λ e. IsEngine (layout_of e.cells) e.checkpoint e.log e.versions e.block × (e.replies ≡ map reply_of e.block) × PoolAgrees D.honest D.history (layout_of e.cells) e.checkpoint (disk_of e.cells) e.halted e.pool };
+    ghost invariant = { λ e. IsEngine (layout_of e.cells) e.checkpoint e.log e.versions e.block × (e.replies ≡ map reply_of e.block) × PoolAgrees D.Disk (layout_of e.cells) e.checkpoint (disk_of e.cells) e.halted e.pool };
 }
 
 impl<D: Disk> Engine<D> {
@@ -115,7 +115,7 @@ impl<D: Disk> Engine<D> {
         versions: Versions,
     ) -> Engine<D>
         requires engine { IsEngine (layout_of cells) checkpoint log versions [] }
-        requires pool { IsPooled D.honest D.history checkpoint.base.params.rows (layout_of cells) (disk_of cells) pool }
+        requires pool { IsPooled D.Disk checkpoint.base.params.rows (layout_of cells) (disk_of cells) pool }
         ensures { result ≡ record { disk = disk_of cells; layout = layout_of cells; checkpoint = checkpoint; log = log; kept = versions; block = []; halted = None } }
     {
         Engine {
@@ -160,7 +160,7 @@ impl<D: Disk> Engine<D> {
     /// Why the log's next block does not begin: nothing was gathered for it, or its cell is live.
     fn block_refusal(&self) -> Option<Refusal>
         requires { self.now.log.phase ≡ Phase.Resting }
-        ensures { result ≡ block_refusal (facts_of D.failures self.now) }
+        ensures { result ≡ block_refusal (facts_of D.Disk self.now) }
     {
         if self.block.is_empty() {
             return Some(Refusal::NotDue);
@@ -171,7 +171,7 @@ impl<D: Disk> Engine<D> {
     /// Why the log writes nothing.
     fn log_refusal(&self) -> Option<Refusal>
         requires { self.now.halted ≡ None }
-        ensures { result ≡ log_refusal (facts_of D.failures self.now) self.now.log.phase }
+        ensures { result ≡ log_refusal (facts_of D.Disk self.now) self.now.log.phase }
     {
         match self.log.phase() {
             Phase::Resting => self.block_refusal(),
@@ -187,9 +187,9 @@ impl<D: Disk> Engine<D> {
     /// or a write awaits its sync; with `LogFull` where the next cell is live, its block still needed; and with
     /// `DiskFault` where the device failed: the engine is then stopped, and otherwise as it was.
     pub fn log(&mut self) -> Result<(), Refusal>
-        ensures call { IsCall D.size D.failures D.honest self.old.disk self.new.disk (fault_of result) }
-        ensures moves { Moves (facts_of D.failures self.old) to_log (wrote result) (facts_of D.failures self.new) }
-        ensures steps { (n : Node) → Holds D.honest D.history D.failures n self.old → (m : Node) × Steps n to_log (wrote result) m × Holds D.honest D.history D.failures m self.new }
+        ensures call { Calls D.Disk self.old.disk self.new.disk (fault_of result) }
+        ensures moves { Moves (facts_of D.Disk self.old) to_log (wrote result) (facts_of D.Disk self.new) }
+        ensures steps { (n : Node) → Holds D.Disk n self.old → (m : Node) × Steps n to_log (wrote result) m × Holds D.Disk m self.new }
         // Nothing else changes, and where it is refused by anything but the device, nothing does.
         ensures rest { self.new ≡ record (self.old) { disk = self.new.disk; log = self.new.log; halted = self.new.halted } }
         ensures unchanged { IfErr result (λ e. (e ≡ DiskFault) ⊎ (self.new ≡ self.old)) }
@@ -199,7 +199,7 @@ impl<D: Disk> Engine<D> {
         ensures memory { IfErr result (λ e. e ≢ OutOfMemory) }
         // The log has made the step that was due.
         ensures log { OnOk result (self.new.log ≡ written_in (due_of self.old.log) (length self.old.block) self.old.log) }
-        ensures leaves { (n : Node) → Holds D.honest D.history D.failures n self.old → LeavesOnly (D.history self.old.disk) (D.history self.new.disk) (IsFrontAt Means n) }
+        ensures leaves { (n : Node) → Holds D.Disk n self.old → LeavesOnly (D.history self.old.disk) (D.history self.new.disk) (IsFrontAt Means n) }
     {
         self.running()?;
         nodes_stay_nodes();
@@ -253,20 +253,20 @@ impl<D: Disk> Engine<D> {
     /// Refuses with `Stopped` where the device has failed before, and with `DiskFault` where it failed: the
     /// engine is then stopped, and otherwise as it was.
     pub fn sync(&mut self) -> Result<Replies, Refusal>
-        ensures call { IsCall D.size D.failures D.honest self.old.disk self.new.disk (fault_of result) }
+        ensures call { Calls D.Disk self.old.disk self.new.disk (fault_of result) }
         // Nothing else changes, and where it is stopped, nothing does.
         ensures rest { self.new ≡ record (self.old) { disk = self.new.disk; checkpoint = self.new.checkpoint; log = self.new.log; kept = self.new.kept; block = self.new.block; halted = self.new.halted } }
         ensures params { self.new.checkpoint.base.params ≡ self.old.checkpoint.base.params }
         ensures unchanged { IfErr result (λ e. (e ≡ DiskFault) ⊎ (self.new ≡ self.old)) }
-        ensures fault { IfErr result (λ e. e ≡ DiskFault → self.new ≡ record (self.old) { disk = self.new.disk; halted = Some self.old.log.phase }) }
+        ensures fault { IfErr result (λ e. e ≡ DiskFault → Halts self.old self.new) }
         // It is one sync of the device, whether anything was written or not; one that failed makes nothing stable.
         ensures synced { D.honest self.old.disk → OnOk result (D.history self.new.disk ≡ Synced (D.history self.old.disk)) }
         ensures unsynced { D.honest self.old.disk → OnErr result (D.history self.new.disk ≡ D.history self.old.disk) }
         // The log is as a sync leaves it, from the base's first block on.
         ensures log { OnOk result (self.new.log ≡ started self.new.checkpoint.base.start (after_sync self.old.log)) }
-        ensures moves { Moves (facts_of D.failures self.old) to_sync (synced result) (facts_of D.failures self.new) }
-        ensures steps { (n : Node) → Holds D.honest D.history D.failures n self.old → (m : Node) × Steps n to_sync (synced result) m × Holds D.honest D.history D.failures m self.new }
-        ensures leaves { (n : Node) → Holds D.honest D.history D.failures n self.old → LeavesOnly (D.history self.old.disk) (D.history self.new.disk) (IsFrontAt Means n) }
+        ensures moves { Moves (facts_of D.Disk self.old) to_sync (synced result) (facts_of D.Disk self.new) }
+        ensures steps { (n : Node) → Holds D.Disk n self.old → (m : Node) × Steps n to_sync (synced result) m × Holds D.Disk m self.new }
+        ensures leaves { (n : Node) → Holds D.Disk n self.old → LeavesOnly (D.history self.old.disk) (D.history self.new.disk) (IsFrontAt Means n) }
     {
         self.running()?;
         nodes_stay_nodes();
@@ -327,7 +327,7 @@ impl<D: Disk> Engine<D> {
     /// The seqno of the last item that was accepted, durable or not: the next one that `accept` takes has the
     /// seqno behind it.
     pub fn delivered(&self) -> u64
-        ensures { result ≡ delivered (facts_of D.failures self.now) }
+        ensures { result ≡ delivered (facts_of D.Disk self.now) }
     {
         self.log.durable() + u64::from(self.block.len())
     }

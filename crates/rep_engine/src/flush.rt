@@ -3,8 +3,8 @@
 ghost use Rattle.std.specs.Prelude.{◌≡◌, ◌⊎◌, None, Some, IfErr, IfSome, OnErr};
 ghost use Rattle.rep_types.specs.declared.refusal.Refusal.TheVariants.{DiskFault, Corrupt};
 ghost use Rattle.rep_types.specs.declared.refusal.Part.TheVariants.{Pages};
-ghost use Rattle.rep_disk.specs.Calls.{IsCall};
 ghost use Rattle.rep_disk.specs.Moments.{LeavesOnly};
+ghost use Rattle.rep_disk.specs.Devices.{Calls};
 ghost use Rattle.rep_log.specs.Moves.{fault_of};
 ghost use Rattle.rep_steps.specs.declared.event.Event.TheVariants.{Flush as to_flush};
 ghost use Rattle.rep_steps.specs.Moves.{Moves};
@@ -13,7 +13,7 @@ ghost use Rattle.rep_steps.specs.Nodes.{Node, Steps};
 ghost use Rattle.rep_image.specs.Meanings.{Means};
 ghost use Rattle.rep_checkpoint.specs.Moves.{flush_refusal, position_in};
 ghost use Rattle.rep_checkpoint.specs.Calls.{IsRefused, Flushes, FlushesAsSpelled};
-ghost use Rattle.rep_engine.specs.Engines.{facts_of};
+ghost use Rattle.rep_engine.specs.Engines.{facts_of, Halts};
 ghost use Rattle.rep_engine.specs.Holding.{Holds, wrote};
 ghost use Rattle.rep_engine.specs.Reading.{halted_by};
 
@@ -27,11 +27,11 @@ impl<D: Disk> Engine<D> {
     /// Flushes a page that the checkpoint may have left. Where the device fails, the engine is stopped.
     pub(crate) fn flush_page(&mut self, page: u32) -> Result<(), Refusal>
         requires { self.old.halted ≡ None }
-        ensures call { IsCall D.size D.failures D.honest self.old.disk self.new.disk (fault_of result) }
+        ensures call { Calls D.Disk self.old.disk self.new.disk (fault_of result) }
         ensures rest { self.new ≡ record (self.old) { disk = self.new.disk; checkpoint = self.new.checkpoint; halted = self.new.halted } }
         ensures halted { self.new.halted ≡ halted_by self.old.log.phase result }
         ensures refused { IfSome (flush_refusal self.old.layout self.old.checkpoint page) (λ e. IsRefused e self.old.checkpoint self.new.checkpoint self.old.disk self.new.disk result) }
-        ensures flushes { flush_refusal self.old.layout self.old.checkpoint page ≡ None → Flushes D.honest D.history self.old.layout self.old.kept page self.old.checkpoint self.new.checkpoint self.old.disk self.new.disk result }
+        ensures flushes { flush_refusal self.old.layout self.old.checkpoint page ≡ None → Flushes D.Disk self.old.layout self.old.kept page self.old.checkpoint self.new.checkpoint self.old.disk self.new.disk result }
         ensures unchanged { OnErr result (self.new.checkpoint ≡ self.old.checkpoint) }
     {
         let outcome = self
@@ -52,18 +52,18 @@ impl<D: Disk> Engine<D> {
     /// position not above the base's; and with `DiskFault` where the device failed: the engine is then stopped,
     /// and otherwise as it was.
     pub fn flush(&mut self, page: u64) -> Result<(), Refusal>
-        ensures call { IsCall D.size D.failures D.honest self.old.disk self.new.disk (fault_of result) }
+        ensures call { Calls D.Disk self.old.disk self.new.disk (fault_of result) }
         // Nothing else changes.
         ensures rest { self.new ≡ record (self.old) { disk = self.new.disk; checkpoint = self.new.checkpoint; halted = self.new.halted } }
-        ensures moves { Moves (facts_of D.failures self.old) (to_flush page) (wrote result) (facts_of D.failures self.new) }
-        ensures steps { (n : Node) → Holds D.honest D.history D.failures n self.old → (m : Node) × Steps n (to_flush page) (wrote result) m × Holds D.honest D.history D.failures m self.new }
-        ensures leaves { (n : Node) → Holds D.honest D.history D.failures n self.old → LeavesOnly (D.history self.old.disk) (D.history self.new.disk) (IsFrontAt Means n) }
+        ensures moves { Moves (facts_of D.Disk self.old) (to_flush page) (wrote result) (facts_of D.Disk self.new) }
+        ensures steps { (n : Node) → Holds D.Disk n self.old → (m : Node) × Steps n (to_flush page) (wrote result) m × Holds D.Disk m self.new }
+        ensures leaves { (n : Node) → Holds D.Disk n self.old → LeavesOnly (D.history self.old.disk) (D.history self.new.disk) (IsFrontAt Means n) }
         // Whatever stands on an honest device: its bytes decide.
         ensures spelled { D.honest self.old.disk → FlushesAsSpelled self.old.layout self.old.checkpoint.base self.old.kept (position_in self.old.checkpoint.stage) page (D.history self.old.disk) (D.history self.new.disk) result }
         // Where it is refused, nothing changes, but that the device was asked for a page that is not of its form, or
         // failed, and the engine is stopped.
         ensures unchanged { IfErr result (λ e. (e ≡ DiskFault) ⊎ (((e ≡ Corrupt Pages) × (self.new ≡ record (self.old) { disk = self.new.disk })) ⊎ (self.new ≡ self.old))) }
-        ensures fault { IfErr result (λ e. e ≡ DiskFault → self.new ≡ record (self.old) { disk = self.new.disk; halted = Some self.old.log.phase }) }
+        ensures fault { IfErr result (λ e. e ≡ DiskFault → Halts self.old self.new) }
     {
         self.running()?;
         checkpoints_go_on();

@@ -3,8 +3,8 @@
 ghost use Rattle.std.specs.Prelude.{◌≡◌, ◌↔◌, ◌+◌, true, [], None, Some, Ok, Err, is_some, IfOk, IfErr, IfSome, OnOk, OnErr};
 ghost use Rattle.rep_types.specs.declared.refusal.Refusal.TheVariants.{Stopped, DiskFault};
 ghost use Rattle.rep_types.specs.Order.{State};
-ghost use Rattle.rep_disk.specs.Calls.{IsCall};
 ghost use Rattle.rep_disk.specs.Moments.{LeavesOnly};
+ghost use Rattle.rep_disk.specs.Devices.{Calls};
 ghost use Rattle.rep_cells.specs.Calls.{Settles};
 ghost use Rattle.rep_log.specs.declared.phase.Phase.TheVariants.{Resting};
 ghost use Rattle.rep_log.specs.Moves.{fault_of, SyncsLog, Restarts};
@@ -15,7 +15,7 @@ ghost use Rattle.rep_checkpoint.specs.declared.stage.Part.TheVariants.{Flushing,
 ghost use Rattle.rep_checkpoint.specs.declared.stage.Stage.TheVariants.{Off};
 ghost use Rattle.rep_checkpoint.specs.Coming.{IsDue, IsNewPage, blank, coming, gone, placed, settled, with_page};
 ghost use Rattle.rep_checkpoint.specs.Installing.{InstallsNext, InstallsPage, WritesComing};
-ghost use Rattle.rep_engine.specs.Engines.{durable_of};
+ghost use Rattle.rep_engine.specs.Engines.{durable_of, OnlyAsks, Halts};
 ghost use Rattle.rep_engine.specs.Holding.{Holds};
 ghost use Rattle.rep_engine.specs.Reading.{halted_by};
 ghost use Rattle.rep_engine.specs.Installing.{CanBring, IsBeside, HoldsBoth, Goes, TakesPlace, IsTaken, halted_node};
@@ -78,7 +78,7 @@ impl<D: Disk> Engine<D> {
         requires brings { CanBring self.checkpoint.base (durable_of self.log) uuid position window }
         ensures stopped { IfSome self.halted (λ _. result ≡ Err (self, Stopped)) }
         ensures begun { self.halted ≡ None → result ≡ Ok (record { engine = self; coming = coming self.checkpoint.base uuid position self.log.next window }) }
-        ensures holds { (n : Node) → Holds D.honest D.history D.failures n self → IfOk result (λ i. HoldsBoth D.honest D.history D.failures n (blank position window) i.engine i.coming) }
+        ensures holds { (n : Node) → Holds D.Disk n self → IfOk result (λ i. HoldsBoth D.Disk n (blank position window) i.engine i.coming) }
     {
         windows_go_on();
         installations_stand_beside();
@@ -106,12 +106,12 @@ impl<D: Disk> Engine<D> {
         requires beside { IsBeside self.old.checkpoint self.old.log self.old.block coming.old }
         requires due { coming.old.part ≡ Flushing }
         requires page { IsNewPage self.old.checkpoint.base coming.old.next page rows }
-        ensures call { IsCall D.size D.failures D.honest self.old.disk self.new.disk (fault_of result) }
-        ensures rest { self.new ≡ record (self.old) { disk = self.new.disk; halted = self.new.halted } }
+        ensures call { Calls D.Disk self.old.disk self.new.disk (fault_of result) }
+        ensures rest { OnlyAsks self.old self.new }
         ensures halted { self.new.halted ≡ halted_by self.old.log.phase result }
         ensures refused { IfErr result (λ e. e ≡ DiskFault) }
         ensures beside { IsBeside self.old.checkpoint self.old.log self.old.block coming.new }
-        ensures puts { InstallsPage D.honest D.history self.old.layout self.old.checkpoint.base page rows coming.old coming.new self.old.disk self.new.disk result }
+        ensures puts { InstallsPage D.Disk self.old.layout self.old.checkpoint.base page rows coming.old coming.new self.old.disk self.new.disk result }
     {
         let outcome = coming.put_page(
             &mut self.cells,
@@ -129,12 +129,12 @@ impl<D: Disk> Engine<D> {
         requires runs { self.old.halted ≡ None }
         requires beside { IsBeside self.old.checkpoint self.old.log self.old.block coming.old }
         requires due { IsDue coming.old.part }
-        ensures call { IsCall D.size D.failures D.honest self.old.disk self.new.disk (fault_of result) }
-        ensures rest { self.new ≡ record (self.old) { disk = self.new.disk; halted = self.new.halted } }
+        ensures call { Calls D.Disk self.old.disk self.new.disk (fault_of result) }
+        ensures rest { OnlyAsks self.old self.new }
         ensures halted { self.new.halted ≡ halted_by self.old.log.phase result }
         ensures refused { IfErr result (λ e. e ≡ DiskFault) }
         ensures beside { IsBeside self.old.checkpoint self.old.log self.old.block coming.new }
-        ensures writes { InstallsNext D.honest D.history self.old.layout self.old.checkpoint.base coming.old coming.new self.old.disk self.new.disk result }
+        ensures writes { InstallsNext D.Disk self.old.layout self.old.checkpoint.base coming.old coming.new self.old.disk self.new.disk result }
     {
         pools_go_on();
         let outcome = coming.next(&mut self.cells, self.checkpoint.base());
@@ -146,11 +146,11 @@ impl<D: Disk> Engine<D> {
     fn install_sync(&mut self) -> Result<(), Refusal>
         requires runs { self.old.halted ≡ None }
         requires resting { self.old.log.phase ≡ Resting }
-        ensures call { IsCall D.size D.failures D.honest self.old.disk self.new.disk (fault_of result) }
-        ensures rest { self.new ≡ record (self.old) { disk = self.new.disk; halted = self.new.halted } }
+        ensures call { Calls D.Disk self.old.disk self.new.disk (fault_of result) }
+        ensures rest { OnlyAsks self.old self.new }
         ensures halted { self.new.halted ≡ halted_by self.old.log.phase result }
         ensures refused { IfErr result (λ e. e ≡ DiskFault) }
-        ensures settles { Settles D.honest D.history self.old.layout self.old.disk self.new.disk (fault_of result) }
+        ensures settles { Settles D.Disk self.old.layout self.old.disk self.new.disk (fault_of result) }
         // A log that rests stands as it did.
         ensures log { OnOk result (SyncsLog self.old.log self.old.log) }
     {
@@ -183,13 +183,13 @@ impl<D: Disk> Engine<D> {
         requires beside { IsBeside self.old.checkpoint self.old.log self.old.block coming.old }
         requires due { IsDue coming.old.part }
         requires closed { coming.old.part ≡ SuperFilled → ⊥ }
-        ensures call { IsCall D.size D.failures D.honest self.old.disk self.new.disk (fault_of result) }
-        ensures rest { self.new ≡ record (self.old) { disk = self.new.disk; halted = self.new.halted } }
+        ensures call { Calls D.Disk self.old.disk self.new.disk (fault_of result) }
+        ensures rest { OnlyAsks self.old self.new }
         ensures halted { self.new.halted ≡ halted_by self.old.log.phase result }
         ensures refused { IfErr result (λ e. e ≡ DiskFault) }
         ensures done { OnOk result (coming.new ≡ settled (gone coming.old)) }
         ensures beside { OnOk result (IsBeside self.old.checkpoint self.old.log self.old.block coming.new) }
-        ensures goes { (n : Node) → (y : State) → HoldsBoth D.honest D.history D.failures n y self.old coming.old → Goes D.honest D.history D.failures n y self.old self.new coming.old coming.new result }
+        ensures goes { (n : Node) → (y : State) → HoldsBoth D.Disk n y self.old coming.old → Goes D.Disk n y self.old self.new coming.old coming.new result }
     {
         images_read_as_allowed();
         installations_stand_beside();
@@ -208,10 +208,10 @@ impl<D: Disk> Engine<D> {
         requires runs { self.old.halted ≡ None }
         requires beside { IsBeside self.old.checkpoint self.old.log self.old.block coming }
         requires filled { coming.part ≡ SuperFilled }
-        ensures call { IsCall D.size D.failures D.honest self.old.disk self.new.disk (fault_of result) }
-        ensures refused { IfErr result (λ e. (e ≡ DiskFault) × (self.new ≡ record (self.old) { disk = self.new.disk; halted = Some self.old.log.phase })) }
+        ensures call { Calls D.Disk self.old.disk self.new.disk (fault_of result) }
+        ensures refused { IfErr result (λ e. (e ≡ DiskFault) × (Halts self.old self.new)) }
         ensures taken { OnOk result (IsTaken coming self.old self.new) }
-        ensures takes { (n : Node) → (y : State) → HoldsBoth D.honest D.history D.failures n y self.old coming → TakesPlace D.honest D.history D.failures n y coming self.old self.new result }
+        ensures takes { (n : Node) → (y : State) → HoldsBoth D.Disk n y self.old coming → TakesPlace D.Disk n y coming self.old self.new result }
     {
         images_read_as_allowed();
         nodes_leave_their_fronts();
@@ -233,10 +233,10 @@ impl<D: Disk> Engine<D> {
         requires runs { self.old.halted ≡ None }
         requires beside { IsBeside self.old.checkpoint self.old.log self.old.block coming }
         requires due { coming.part ≡ Flushing }
-        ensures call { IsCall D.size D.failures D.honest self.old.disk self.new.disk (fault_of result) }
-        ensures refused { IfErr result (λ e. (e ≡ DiskFault) × (self.new ≡ record (self.old) { disk = self.new.disk; halted = Some self.old.log.phase })) }
+        ensures call { Calls D.Disk self.old.disk self.new.disk (fault_of result) }
+        ensures refused { IfErr result (λ e. (e ≡ DiskFault) × (Halts self.old self.new)) }
         ensures taken { OnOk result (IsTaken coming self.old self.new) }
-        ensures takes { (n : Node) → (y : State) → HoldsBoth D.honest D.history D.failures n y self.old coming → TakesPlace D.honest D.history D.failures n y coming self.old self.new result }
+        ensures takes { (n : Node) → (y : State) → HoldsBoth D.Disk n y self.old coming → TakesPlace D.Disk n y coming self.old self.new result }
     {
         let mut coming = coming;
         self.install_step(&mut coming)?;
@@ -283,18 +283,18 @@ impl<D: Disk> Installation<D> {
     /// stopped, and otherwise as it was.
     pub fn put_page(&mut self, page: u32, rows: PageRows) -> Result<(), Refusal>
         requires page { IsNewPage self.old.engine.checkpoint.base self.old.coming.next page rows }
-        ensures call { IsCall D.size D.failures D.honest self.old.engine.disk self.new.engine.disk (fault_of result) }
-        ensures rest { self.new.engine ≡ record (self.old.engine) { disk = self.new.engine.disk; halted = self.new.engine.halted } }
+        ensures call { Calls D.Disk self.old.engine.disk self.new.engine.disk (fault_of result) }
+        ensures rest { OnlyAsks self.old.engine self.new.engine }
         ensures stopped { IfSome self.old.engine.halted (λ _. (result ≡ Err Stopped) × (self.new ≡ self.old)) }
         ensures running { self.old.engine.halted ≡ None → (self.new.engine.halted ≡ halted_by self.old.engine.log.phase result) × IfErr result (λ e. e ≡ DiskFault) }
         ensures done { OnOk result (self.new.coming ≡ placed self.old.engine.checkpoint.base page self.old.coming) }
         ensures fault { OnErr result (self.new.coming ≡ self.old.coming) }
         // Its position in the bytes is the snapshot's.
-        ensures written { self.old.engine.halted ≡ None → WritesComing D.honest D.history self.old.engine.layout self.old.engine.checkpoint.base self.old.coming page rows self.old.engine.disk self.new.engine.disk result }
+        ensures written { self.old.engine.halted ≡ None → WritesComing D.Disk self.old.engine.layout self.old.engine.checkpoint.base self.old.coming page rows self.old.engine.disk self.new.engine.disk result }
         // Where it succeeds, the snapshot brings the page's rows too.
-        ensures holds { (n : Node) → (y : State) → HoldsBoth D.honest D.history D.failures n y self.old.engine self.old.coming → OnOk result (HoldsBoth D.honest D.history D.failures n (with_page self.old.engine.checkpoint.base.params.rows page rows y) self.new.engine self.new.coming) }
-        ensures halts { (n : Node) → (y : State) → HoldsBoth D.honest D.history D.failures n y self.old.engine self.old.coming → IfErr result (λ e. e ≡ DiskFault → HoldsBoth D.honest D.history D.failures (halted_node (D.failures self.new.engine.disk) n) y self.new.engine self.new.coming) }
-        ensures leaves { (n : Node) → (y : State) → HoldsBoth D.honest D.history D.failures n y self.old.engine self.old.coming → LeavesOnly (D.history self.old.engine.disk) (D.history self.new.engine.disk) (IsFrontAt Means n) }
+        ensures holds { (n : Node) → (y : State) → HoldsBoth D.Disk n y self.old.engine self.old.coming → OnOk result (HoldsBoth D.Disk n (with_page self.old.engine.checkpoint.base.params.rows page rows y) self.new.engine self.new.coming) }
+        ensures halts { (n : Node) → (y : State) → HoldsBoth D.Disk n y self.old.engine self.old.coming → IfErr result (λ e. e ≡ DiskFault → HoldsBoth D.Disk (halted_node (D.failures self.new.engine.disk) n) y self.new.engine self.new.coming) }
+        ensures leaves { (n : Node) → (y : State) → HoldsBoth D.Disk n y self.old.engine self.old.coming → LeavesOnly (D.history self.old.engine.disk) (D.history self.new.engine.disk) (IsFrontAt Means n) }
     {
         self.engine.running()?;
         installations_stand_beside();
@@ -305,7 +305,7 @@ impl<D: Disk> Installation<D> {
     /// Gives the snapshot up: the engine is as it was before, whatever pages came. The device is not asked.
     pub fn give_up(self) -> Engine<D>
         ensures engine { result ≡ self.engine }
-        ensures holds { (n : Node) → (y : State) → HoldsBoth D.honest D.history D.failures n y self.engine self.coming → Holds D.honest D.history D.failures n result }
+        ensures holds { (n : Node) → (y : State) → HoldsBoth D.Disk n y self.engine self.coming → Holds D.Disk n result }
     {
         installations_can_be_dropped();
         let Installation { engine, .. } = self;
@@ -321,11 +321,11 @@ impl<D: Disk> Installation<D> {
     /// Refuses with `Stopped` where the device has failed before; and with `DiskFault` where it failed: the engine is then stopped,
     /// and what is opened on its disk is either what it was or the snapshot.
     pub fn end(self) -> (Engine<D>, Result<(), Refusal>)
-        ensures call { IsCall D.size D.failures D.honest self.engine.disk result.0.disk (fault_of result.1) }
+        ensures call { Calls D.Disk self.engine.disk result.0.disk (fault_of result.1) }
         ensures stopped { IfSome self.engine.halted (λ _. result ≡ (self.engine, Err Stopped)) }
-        ensures fault { self.engine.halted ≡ None → IfErr result.1 (λ e. (e ≡ DiskFault) × (result.0 ≡ record (self.engine) { disk = result.0.disk; halted = Some self.engine.log.phase })) }
+        ensures fault { self.engine.halted ≡ None → IfErr result.1 (λ e. (e ≡ DiskFault) × (Halts self.engine result.0)) }
         ensures taken { OnOk result.1 (IsTaken self.coming self.engine result.0) }
-        ensures takes { (n : Node) → (y : State) → HoldsBoth D.honest D.history D.failures n y self.engine self.coming → TakesPlace D.honest D.history D.failures n y self.coming self.engine result.0 result.1 }
+        ensures takes { (n : Node) → (y : State) → HoldsBoth D.Disk n y self.engine self.coming → TakesPlace D.Disk n y self.coming self.engine result.0 result.1 }
     {
         let Installation { mut engine, coming } = self;
         if engine.is_stopped() {

@@ -18,7 +18,7 @@ use rep_record::fronts_are_determined;
 /// engine stands for that ends exactly at what is durable, or, while the gate of a block is opening, at that with
 /// the whole block. So nothing that was only accepted comes back after a stop, and no part of a block.
 pub fn running_engines_leave_their_ends<D: Disk>(engine: &Engine<D>)
-    ensures { LeavesItsEnds D.honest D.history D.failures engine.now }
+    ensures { LeavesItsEnds D.Disk engine.now }
 {
     images_read_as_allowed();
     nodes_leave_their_ends();

@@ -4,8 +4,8 @@ ghost use Rattle.std.specs.Prelude.{◌≡◌, ◌⊎◌, None, Some, IfErr};
 ghost use Rattle.rep_types.specs.declared.refusal.Part.TheVariants.{Pages};
 ghost use Rattle.rep_types.specs.declared.refusal.Refusal.TheVariants.{DiskFault, Corrupt};
 ghost use Rattle.rep_disk.specs.History.{seen};
-ghost use Rattle.rep_disk.specs.Calls.{IsCall};
 ghost use Rattle.rep_disk.specs.Moments.{LeavesOnly};
+ghost use Rattle.rep_disk.specs.Devices.{Calls, SameHistory};
 ghost use Rattle.rep_layout.specs.Rows.{row_place};
 ghost use Rattle.rep_cells.specs.Readings.{reading_of};
 ghost use Rattle.rep_log.specs.Moves.{fault_of};
@@ -16,7 +16,7 @@ ghost use Rattle.rep_steps.specs.Nodes.{Node, Steps};
 ghost use Rattle.rep_versions.specs.Versions.{IsAnswer};
 ghost use Rattle.rep_engine.specs.Holding.{Holds, row};
 ghost use Rattle.rep_engine.specs.Reading.{ReadsRow, ReadsAt};
-ghost use Rattle.rep_engine.specs.Engines.{facts_of};
+ghost use Rattle.rep_engine.specs.Engines.{facts_of, OnlyAsks, Halts};
 
 use crate::engine::{Engine, halted_by};
 use crate::write::base_row;
@@ -29,7 +29,7 @@ use rep_versions::{At, versions_follow_the_items};
 impl<D: Disk> Engine<D> {
     /// Why a read is refused.
     fn read_refusal(&self, key: Key, s: u64) -> Option<Refusal>
-        ensures { result ≡ read_refusal (facts_of D.failures self.now) key s }
+        ensures { result ≡ read_refusal (facts_of D.Disk self.now) key s }
     {
         if !self.checkpoint.base().params.schema().contains(key) {
             return Some(Refusal::BadKey);
@@ -56,7 +56,7 @@ impl<D: Disk> Engine<D> {
     /// What the row is at the base. Where the device fails, the engine is stopped.
     fn read_base(&mut self, key: Key) -> Result<Option<Value>, Refusal>
         requires { self.old.halted ≡ None }
-        ensures read { ReadsRow D.size D.failures D.honest D.history key self.old self.new result }
+        ensures read { ReadsRow D.Disk key self.old self.new result }
     {
         let row = base_row(&mut self.cells, &mut self.pool, self.checkpoint.base(), key);
         self.halted = halted_by(self.log.phase(), &row);
@@ -75,17 +75,17 @@ impl<D: Disk> Engine<D> {
     /// not above the base's.
     pub fn read(&mut self, key: Key, s: u64) -> Result<Option<Value>, Refusal>
         // The device is asked at most, and nothing else changes but whether it is stopped.
-        ensures call { IsCall D.size D.failures D.honest self.old.disk self.new.disk (fault_of result) }
-        ensures rest { self.new ≡ record (self.old) { disk = self.new.disk; halted = self.new.halted } }
-        ensures moves { Moves (facts_of D.failures self.old) (Read key s) (row result) (facts_of D.failures self.new) }
-        ensures steps { (n : Node) → Holds D.honest D.history D.failures n self.old → (m : Node) × Steps n (Read key s) (row result) m × Holds D.honest D.history D.failures m self.new }
-        ensures same { D.honest self.old.disk → D.history self.new.disk ≡ D.history self.old.disk }
+        ensures call { Calls D.Disk self.old.disk self.new.disk (fault_of result) }
+        ensures rest { OnlyAsks self.old self.new }
+        ensures moves { Moves (facts_of D.Disk self.old) (Read key s) (row result) (facts_of D.Disk self.new) }
+        ensures steps { (n : Node) → Holds D.Disk n self.old → (m : Node) × Steps n (Read key s) (row result) m × Holds D.Disk m self.new }
+        ensures same { SameHistory D.Disk self.old.disk self.new.disk }
         // Whatever stands on an honest device: its bytes decide.
         ensures spelled { D.honest self.old.disk → ReadsAt (reading_of self.old.layout (seen (D.history self.old.disk))) self.old.checkpoint.base self.old.kept key s result }
         // Where it is refused, nothing changes, but that the device was asked for a page that is not of its form, or
         // failed, and the engine is stopped.
         ensures unchanged { IfErr result (λ e. (e ≡ DiskFault) ⊎ (((e ≡ Corrupt Pages) × (self.new ≡ record (self.old) { disk = self.new.disk })) ⊎ (self.new ≡ self.old))) }
-        ensures fault { IfErr result (λ e. e ≡ DiskFault → self.new ≡ record (self.old) { disk = self.new.disk; halted = Some self.old.log.phase }) }
+        ensures fault { IfErr result (λ e. e ≡ DiskFault → Halts self.old self.new) }
     {
         self.running()?;
         nodes_stay_nodes();

@@ -4,7 +4,7 @@ ghost use Rattle.std.specs.Prelude.{◌≡◌, ◌≢◌, ◌⊎◌, length, IfE
 ghost use Rattle.rep_types.specs.declared.refusal.Refusal.TheVariants.{DiskFault, Corrupt};
 ghost use Rattle.rep_types.specs.declared.refusal.Part.TheVariants.{Pages};
 ghost use Rattle.rep_record.specs.Blocks.{first_seqno};
-ghost use Rattle.rep_disk.specs.Calls.{IsCall};
+ghost use Rattle.rep_disk.specs.Devices.{Calls, SameHistory};
 ghost use Rattle.rep_layout.specs.Places.{layout_of as places_of, log_of};
 ghost use Rattle.rep_layout.specs.Supers.{IsSuper};
 ghost use Rattle.rep_cells.specs.Device.{disk_of, layout_of};
@@ -34,10 +34,10 @@ pub(crate) fn write_next<D: Disk>(
     requires cells { (layout_of cells.old).cells ≡ log.old.cells }
     requires block { first_seqno block.now ≡ log.old.seqno }
     requires due { IsWrite (due_of log.old) }
-    ensures call { IsCall D.size D.failures D.honest (disk_of cells.old) (disk_of cells.new) (fault_of result) }
+    ensures call { Calls D.Disk (disk_of cells.old) (disk_of cells.new) (fault_of result) }
     ensures layout { layout_of cells.new ≡ layout_of cells.old }
-    ensures inside { WritesIn D.honest D.history (layout_of cells.old) (log_of (layout_of cells.old) log.old.next) (disk_of cells.old) (disk_of cells.new) result }
-    ensures written { WritesNext D.honest D.history (layout_of cells.old) (due_of log.old) block.now log.old log.new (disk_of cells.old) (disk_of cells.new) result }
+    ensures inside { WritesIn D.Disk (layout_of cells.old) (log_of (layout_of cells.old) log.old.next) (disk_of cells.old) (disk_of cells.new) result }
+    ensures written { WritesNext D.Disk (layout_of cells.old) (due_of log.old) block.now log.old log.new (disk_of cells.old) (disk_of cells.new) result }
 {
     match log.step_due() {
         Step::Recycle => log.recycle(cells),
@@ -56,12 +56,12 @@ pub(crate) fn base_row<D: Disk>(
 ) -> Result<Option<Value>, Refusal>
     requires super_body { IsSuper superblock.now }
     requires layout { layout_of cells.old ≡ places_of superblock.now.params }
-    ensures call { IsCall D.size D.failures D.honest (disk_of cells.old) (disk_of cells.new) (fault_of result) }
+    ensures call { Calls D.Disk (disk_of cells.old) (disk_of cells.new) (fault_of result) }
     ensures layout { layout_of cells.new ≡ layout_of cells.old }
-    ensures same { D.honest (disk_of cells.old) → D.history (disk_of cells.new) ≡ D.history (disk_of cells.old) }
-    ensures read { IsPooled D.honest D.history superblock.now.params.rows (layout_of cells.old) (disk_of cells.old) pool.old → ReadsBase D.honest D.history (layout_of cells.old) superblock.now key (disk_of cells.old) result }
-    ensures spelled { IsPooled D.honest D.history superblock.now.params.rows (layout_of cells.old) (disk_of cells.old) pool.old → ReadsAsSpelled D.honest D.history (layout_of cells.old) superblock.now key (disk_of cells.old) result }
-    ensures agrees { GoesOn D.honest D.history superblock.now.params.rows (layout_of cells.old) (disk_of cells.old) (disk_of cells.new) pool.old pool.new }
+    ensures same { SameHistory D.Disk (disk_of cells.old) (disk_of cells.new) }
+    ensures read { IsPooled D.Disk superblock.now.params.rows (layout_of cells.old) (disk_of cells.old) pool.old → ReadsBase D.Disk (layout_of cells.old) superblock.now key (disk_of cells.old) result }
+    ensures spelled { IsPooled D.Disk superblock.now.params.rows (layout_of cells.old) (disk_of cells.old) pool.old → ReadsAsSpelled D.Disk (layout_of cells.old) superblock.now key (disk_of cells.old) result }
+    ensures agrees { GoesOn D.Disk superblock.now.params.rows (layout_of cells.old) (disk_of cells.old) (disk_of cells.new) pool.old pool.new }
     ensures refused { IfErr result (λ e. (e ≡ DiskFault) ⊎ (e ≡ Corrupt Pages)) }
 {
     stable_bases_are_read();

@@ -60,7 +60,7 @@ fn goes_on<D: Disk>(node: &Replica<D>, snapshot: &Snapshot) -> bool
 /// Whether the snapshot of a donor with these parameters is for the node.
 fn is_for<D: Disk>(node: &Replica<D>, params: &Params, snapshot: &Snapshot) -> bool
     requires { IsWindowAt params.now snapshot.now.position snapshot.now.window }
-    ensures quiet { result ≡ true → is_quiet (facts_of D.failures node.now) ≡ true }
+    ensures quiet { result ≡ true → is_quiet (facts_of D.Disk node.now) ≡ true }
     ensures brings { result ≡ true → CanBring node.now.engine.checkpoint.base (durable_of node.now.engine.log) snapshot.now.uuid snapshot.now.position snapshot.now.window }
 {
     know_uuid(&snapshot.uuid);
@@ -78,7 +78,7 @@ fn begun<D: Disk, W: Sink>(
     snapshot: Snapshot,
     writer: &mut W,
 ) -> Left<D>
-    requires quiet { is_quiet (facts_of D.failures node) ≡ true }
+    requires quiet { is_quiet (facts_of D.Disk node) ≡ true }
     requires brings { CanBring node.engine.checkpoint.base (durable_of node.engine.log) snapshot.uuid snapshot.position snapshot.window }
 {
     let Snapshot {

@@ -4,8 +4,9 @@ use Rattle.std.proofs.lemmas.Bool.{false≢true}
 use Rattle.rep_types.specs.declared.judged.Judged.{Judged}
 use Rattle.rep_types.specs.declared.limits.TheConstants.{MAX_SEQNO}
 use Rattle.rep_record.specs.Blocks.{BlocksAreTold}
-use Rattle.rep_disk.specs.Calls.{IsCall}
+use Rattle.rep_disk.specs.declared.disk.Disk.{Ghosts}
 use Rattle.rep_disk.specs.History.{History, seen}
+use Rattle.rep_disk.specs.Devices.{Calls}
 use Rattle.rep_layout.specs.declared.place.Layout.{Layout}
 use Rattle.rep_layout.specs.Places.{log_of, TurnsAreTaken}
 use Rattle.rep_cells.specs.Readings.{reading_of}
@@ -17,12 +18,12 @@ use Rattle.rep_log.proofs.Scanned.{Progress, goes_on, no_log, finds}
 -- ---- calls that succeeded
 
 -- no call
-pub no_call : {D : Type 0} (size failures : D → ℕ) (honest : D → Type 0) (disk : D) → IsCall {T = Unit {0}} size failures honest disk disk (Ok tt)
-no_call size failures honest disk = record { same_size = refl; stays_honest = λ h. h; was_honest = λ h. h; cause = λ e. absurd (false≢true e); no_cause = λ e. refl }
+pub no_call : {D : Type 0} (g : Ghosts D) (disk : D) → Calls {T = Unit {0}} g disk disk (Ok tt)
+no_call g disk = record { same_size = refl; stays_honest = λ h. h; was_honest = λ h. h; cause = λ e. absurd (false≢true e); no_cause = λ e. refl }
 
 -- one behind another
-pub calls : {D : Type 0} (size failures : D → ℕ) (honest : D → Type 0) (a b d : D) → IsCall {T = Unit {0}} size failures honest a b (Ok tt) → IsCall {T = Unit {0}} size failures honest b d (Ok tt) → IsCall {T = Unit {0}} size failures honest a d (Ok tt)
-calls size failures honest a b d first second = record {
+pub calls : {D : Type 0} (g : Ghosts D) (a b d : D) → Calls {T = Unit {0}} g a b (Ok tt) → Calls {T = Unit {0}} g b d (Ok tt) → Calls {T = Unit {0}} g a d (Ok tt)
+calls g a b d first second = record {
   same_size = second.same_size ∙ first.same_size;
   stays_honest = λ h. second.stays_honest (first.stays_honest h);
   was_honest = λ h. first.was_honest (second.was_honest h);

@@ -8,6 +8,7 @@ use Rattle.rep_types.specs.declared.refusal.Refusal.{Refusal}
 use Rattle.rep_types.specs.declared.refusal.Refusal.TheVariants.{NotDue, DiskFault}
 use Rattle.rep_forms.specs.FormLaws.{conjuncts}
 use Rattle.rep_record.specs.Blocks.{IsBlock, SeqnosFrom, first_seqno, block_bytes}
+use Rattle.rep_disk.specs.declared.disk.Disk.{Ghosts}
 use Rattle.rep_disk.specs.History.{History}
 use Rattle.rep_disk.specs.declared.disk.DiskFault.{DiskFault as Fault}
 use Rattle.rep_layout.specs.declared.place.Layout.{Layout}
@@ -64,12 +65,12 @@ moved turns l old new s log phase first blocks sealed coming step result writes 
 }
 
 pub step_is :
-    {D : Type 0} → TurnsAreTaken → (honest : D → Type 0) (history : D → History) (l : Layout) (log : Standing) (phase : Phase) (coming : List Judged → List Judged) (at : ℕ) (bytes : List ℕ) (old new : D)
+    {D : Type 0} → TurnsAreTaken → (g : Ghosts D) (l : Layout) (log : Standing) (phase : Phase) (coming : List Judged → List Judged) (at : ℕ) (bytes : List ℕ) (old new : D)
     (step : State → State) (result : Result (Unit {0}) Refusal)
     → busy phase ≡ 1 → IsDueFor l log phase coming step → IfErr result (λ e. e ≡ DiskFault)
-    → WritesOnly honest history at bytes old new (fault_of result) → WritesIn honest history l (log_of l log.next) old new (fault_of result) → StepsAt honest history l (log_of l log.next) step old new (fault_of result)
-    → IsStep honest history l log (record log { phase = phase }) (record log { phase = phase }) coming at bytes old new result
-step_is turns honest history l log phase coming at bytes old new step result writes due only written inside steps = record {
+    → WritesOnly g at bytes old new (fault_of result) → WritesIn g l (log_of l log.next) old new (fault_of result) → StepsAt g l (log_of l log.next) step old new (fault_of result)
+    → IsStep g l log (record log { phase = phase }) (record log { phase = phase }) coming at bytes old new result
+step_is turns g l log phase coming at bytes old new step result writes due only written inside steps = record {
   stands = refl;
   fault = only;
   written = λ h. record { done = ok_as result _ (written h).done; failed = err_as result _ only (written h).failed };
@@ -80,7 +81,7 @@ step_is turns honest history l log phase coming at bytes old new step result wri
       record {
         states = stepped.after;
         elsewhere = λ place other. stepped.moves.elsewhere place (λ e. other (log.next % l.cells) (e ∙ log_is l log.next is.some));
-        log_is = moved turns l (history old) (history new) s log phase first blocks sealed (coming sealed) step (fault_of result) writes is is_due.0 is_due.1 stepped;
+        log_is = moved turns l (g.history old) (g.history new) s log phase first blocks sealed (coming sealed) step (fault_of result) writes is is_due.0 is_due.1 stepped;
         reaches = record { ok = ok_as result _ stepped.reaches.ok; images = stepped.reaches.images; moments = stepped.reaches.moments };
       };
 }
@@ -183,23 +184,23 @@ gate_is_due l log n e s first blocks sealed is =
 
 -- a step, as the call makes it
 pub step_at :
-    {D : Type 0} → TurnsAreTaken → (honest : D → Type 0) (history : D → History) (l : Layout) (log after : Standing) (phase : Phase) (coming : List Judged → List Judged) (place : Place) (at : Place → ℕ) (bytes : List ℕ) (old new : D)
+    {D : Type 0} → TurnsAreTaken → (g : Ghosts D) (l : Layout) (log after : Standing) (phase : Phase) (coming : List Judged → List Judged) (place : Place) (at : Place → ℕ) (bytes : List ℕ) (old new : D)
     (step : State → State) (answer : Result (Unit {0}) Fault) (result : Result (Unit {0}) Refusal)
     → busy phase ≡ 1 → IsDueFor l log phase coming step → IfErr result (λ e. e ≡ DiskFault) → place ≡ log_of l log.next → after ≡ record log { phase = phase } → fault_of result ≡ answer
-    → WritesOnly honest history (at place) bytes old new answer → WritesIn honest history l place old new answer → StepsAt honest history l place step old new answer
-    → IsStep honest history l log after (record log { phase = phase }) coming (at (log_of l log.next)) bytes old new result
-step_at {D} turns honest history l log after phase coming place at bytes old new step answer result writes due only there stands fault written inside steps =
-    subst (λ (x : Standing). IsStep honest history l log x (record log { phase = phase }) coming (at (log_of l log.next)) bytes old new result) (sym stands)
-    (step_is turns honest history l log phase coming (at (log_of l log.next)) bytes old new step result writes due only
-    (subst (λ (r : Result (Unit {0}) Fault). WritesOnly honest history (at (log_of l log.next)) bytes old new r) (sym fault) (subst (λ (p : Place). WritesOnly honest history (at p) bytes old new answer) there written))
-    (subst (λ (r : Result (Unit {0}) Fault). WritesIn honest history l (log_of l log.next) old new r) (sym fault) (subst (λ (p : Place). WritesIn honest history l p old new answer) there inside))
-    (subst (λ (r : Result (Unit {0}) Fault). StepsAt honest history l (log_of l log.next) step old new r) (sym fault) (subst (λ (p : Place). StepsAt honest history l p step old new answer) there steps)))
+    → WritesOnly g (at place) bytes old new answer → WritesIn g l place old new answer → StepsAt g l place step old new answer
+    → IsStep g l log after (record log { phase = phase }) coming (at (log_of l log.next)) bytes old new result
+step_at {D} turns g l log after phase coming place at bytes old new step answer result writes due only there stands fault written inside steps =
+    subst (λ (x : Standing). IsStep g l log x (record log { phase = phase }) coming (at (log_of l log.next)) bytes old new result) (sym stands)
+    (step_is turns g l log phase coming (at (log_of l log.next)) bytes old new step result writes due only
+    (subst (λ (r : Result (Unit {0}) Fault). WritesOnly g (at (log_of l log.next)) bytes old new r) (sym fault) (subst (λ (p : Place). WritesOnly g (at p) bytes old new answer) there written))
+    (subst (λ (r : Result (Unit {0}) Fault). WritesIn g l (log_of l log.next) old new r) (sym fault) (subst (λ (p : Place). WritesIn g l p old new answer) there inside))
+    (subst (λ (r : Result (Unit {0}) Fault). StepsAt g l (log_of l log.next) step old new r) (sym fault) (subst (λ (p : Place). StepsAt g l p step old new answer) there steps)))
 
 -- the same to a standing that is said otherwise
 pub step_to :
-    {D : Type 0} {honest : D → Type 0} {history : D → History} {l : Layout} {log after here to : Standing} {coming : List Judged → List Judged} {at : ℕ} {bytes : List ℕ} {old new : D} {result : Result (Unit {0}) Refusal}
-    → here ≡ to → IsStep honest history l log after here coming at bytes old new result → IsStep honest history l log after to coming at bytes old new result
-step_to {honest = honest} {history = history} {l = l} {log = log} {after = after} {coming = coming} {at = at} {bytes = bytes} {old = old} {new = new} {result = result} e h = subst (λ (to : Standing). IsStep honest history l log after to coming at bytes old new result) e h
+    {D : Type 0} {g : Ghosts D} {l : Layout} {log after here to : Standing} {coming : List Judged → List Judged} {at : ℕ} {bytes : List ℕ} {old new : D} {result : Result (Unit {0}) Refusal}
+    → here ≡ to → IsStep g l log after here coming at bytes old new result → IsStep g l log after to coming at bytes old new result
+step_to {g = g} {l = l} {log = log} {after = after} {coming = coming} {at = at} {bytes = bytes} {old = old} {new = new} {result = result} e h = subst (λ (to : Standing). IsStep g l log after to coming at bytes old new result) e h
 
 -- nothing was refused
 pub not_refused : (o : Option Refusal) → ((e : Refusal) → o ≡ Some e → ⊥) → o ≡ None

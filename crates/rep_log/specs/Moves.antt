@@ -4,6 +4,7 @@ use Rattle.rep_types.specs.declared.judged.Judged.{Judged}
 use Rattle.rep_types.specs.declared.refusal.Refusal.{Refusal}
 use Rattle.rep_types.specs.declared.refusal.Refusal.TheVariants.{NotDue, LogFull, DiskFault}
 use Rattle.rep_record.specs.Blocks.{first_seqno}
+use Rattle.rep_disk.specs.declared.disk.Disk.{Ghosts}
 use Rattle.rep_disk.specs.History.{History}
 use Rattle.rep_layout.specs.declared.place.Layout.{Layout}
 use Rattle.rep_layout.specs.declared.place.Place.{Place}
@@ -111,14 +112,14 @@ pub record Steps {T E : Type 0} (l : Layout) (old new : History) (s : States) (l
 -- A step that is due: the log stands so after it, also where it failed; it writes these bytes at this offset and no others, in
 -- the next block's cell; it refuses the device's fault alone; and on an honest device, whatever the log held before, it holds it during the call and
 -- after it, with this block in writing.
-pub record IsStep {D T : Type 0} (honest : D → Type 0) (history : D → History) (l : Layout) (before after to : Standing) (coming : List Judged → List Judged) (at : ℕ) (bytes : List ℕ) (old new : D) (result : Result T Refusal) : Type 0 where
+pub record IsStep {D T : Type 0} (g : Ghosts D) (l : Layout) (before after to : Standing) (coming : List Judged → List Judged) (at : ℕ) (bytes : List ℕ) (old new : D) (result : Result T Refusal) : Type 0 where
   pub stands : after ≡ to
   pub fault : IfErr result (λ e. e ≡ DiskFault)
-  pub written : WritesOnly honest history at bytes old new result
-  pub inside : WritesIn honest history l (log_of l before.next) old new result
+  pub written : WritesOnly g at bytes old new result
+  pub inside : WritesIn g l (log_of l before.next) old new result
   pub steps :
-      honest old → (s : States) (first : ℕ) (blocks : List (List Judged)) (sealed : List Judged) → Assigns l (history old) s → LogIs l before first blocks sealed s
-      → Steps l (history old) (history new) s after first blocks (coming sealed) result
+      g.honest old → (s : States) (first : ℕ) (blocks : List (List Judged)) (sealed : List Judged) → Assigns l (g.history old) s → LogIs l before first blocks sealed s
+      → Steps l (g.history old) (g.history new) s after first blocks (coming sealed) result
 
 -- Whatever the log held, a sync leaves that, with the block whose gate opened.
 abbrev pub SyncsLog : Standing → Standing → Type 0

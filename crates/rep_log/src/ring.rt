@@ -3,7 +3,7 @@
 ghost use Rattle.std.specs.Prelude.{◌≡◌, ◌==◌, ◌+◌, ◌-◌, ◌<◌, ◌≤◌, ◌%◌, ◌⊎◌, [], None, Some, Err, length, IfOk, IfErr, IfSome, if◌then◌else◌};
 ghost use Rattle.rep_types.specs.declared.judged.Judged.{Judged};
 ghost use Rattle.rep_disk.specs.History.{seen, failed};
-ghost use Rattle.rep_disk.specs.Calls.{IsCall};
+ghost use Rattle.rep_disk.specs.Devices.{Calls, SameHistory};
 ghost use Rattle.rep_record.specs.Blocks.{IsBlock, block_bytes};
 ghost use Rattle.rep_layout.specs.Places.{offset_of, gate_of, log_of};
 ghost use Rattle.rep_cells.specs.Device.{disk_of, layout_of};
@@ -68,9 +68,9 @@ impl Log {
         start: u64,
         position: u64,
     ) -> Result<(Log, Vec<Judged>), Refusal>
-        ensures call { IsCall D.size D.failures D.honest (disk_of cells.old) (disk_of cells.new) (fault_of result) }
+        ensures call { Calls D.Disk (disk_of cells.old) (disk_of cells.new) (fault_of result) }
         ensures layout { layout_of cells.new ≡ layout_of cells.old }
-        ensures same { D.honest (disk_of cells.old) → D.history (disk_of cells.new) ≡ D.history (disk_of cells.old) }
+        ensures same { SameHistory D.Disk (disk_of cells.old) (disk_of cells.new) }
         ensures cells { HasCells (layout_of cells.old) ⊎ (result ≡ Err Refusal.BadParams) }
         // On any device.
         ensures scanned { IfOk result (λ x. IsScanned (layout_of cells.old) start (position + 1) x.0 x.1.items) }
@@ -212,10 +212,10 @@ impl Log {
     /// Refuses with `NotDue` where that is not due, and on cells of another log; with `DiskFault` where
     /// the device failed, and then the log stands as if it had not: whoever calls stops.
     pub fn recycle<D: Disk>(&mut self, cells: &mut Cells<D>) -> Result<(), Refusal>
-        ensures call { IsCall D.size D.failures D.honest (disk_of cells.old) (disk_of cells.new) (fault_of result) }
+        ensures call { Calls D.Disk (disk_of cells.old) (disk_of cells.new) (fault_of result) }
         ensures layout { layout_of cells.new ≡ layout_of cells.old }
         ensures refused { IfSome (step_refusal Step.Recycle (layout_of cells.old) self.old) (λ e. IsRefused e self.old self.new (disk_of cells.old) (disk_of cells.new) result) }
-        ensures step { step_refusal Step.Recycle (layout_of cells.old) self.old ≡ None → IsStep D.honest D.history (layout_of cells.old) self.old self.new (recycled self.old) (λ sealed. sealed) (gate_of (layout_of cells.old) (log_of (layout_of cells.old) self.old.next)) (gate 0) (disk_of cells.old) (disk_of cells.new) result }
+        ensures step { step_refusal Step.Recycle (layout_of cells.old) self.old ≡ None → IsStep D.Disk (layout_of cells.old) self.old self.new (recycled self.old) (λ sealed. sealed) (gate_of (layout_of cells.old) (log_of (layout_of cells.old) self.old.next)) (gate 0) (disk_of cells.old) (disk_of cells.new) result }
     {
         turns_are_taken();
         let layout = cells.layout();
@@ -237,10 +237,10 @@ impl Log {
         cells: &mut Cells<D>,
         block: &BlockBuilder,
     ) -> Result<(), Refusal>
-        ensures call { IsCall D.size D.failures D.honest (disk_of cells.old) (disk_of cells.new) (fault_of result) }
+        ensures call { Calls D.Disk (disk_of cells.old) (disk_of cells.new) (fault_of result) }
         ensures layout { layout_of cells.new ≡ layout_of cells.old }
         ensures refused { IfSome (seal_refusal (layout_of cells.old) self.old block.now) (λ e. IsRefused e self.old self.new (disk_of cells.old) (disk_of cells.new) result) }
-        ensures step { seal_refusal (layout_of cells.old) self.old block.now ≡ None → IsStep D.honest D.history (layout_of cells.old) self.old self.new (sealed_as (length block.now) self.old) (λ sealed. block.now) (offset_of (layout_of cells.old) (log_of (layout_of cells.old) self.old.next)) (block_bytes self.old.next block.now) (disk_of cells.old) (disk_of cells.new) result }
+        ensures step { seal_refusal (layout_of cells.old) self.old block.now ≡ None → IsStep D.Disk (layout_of cells.old) self.old self.new (sealed_as (length block.now) self.old) (λ sealed. block.now) (offset_of (layout_of cells.old) (log_of (layout_of cells.old) self.old.next)) (block_bytes self.old.next block.now) (disk_of cells.old) (disk_of cells.new) result }
     {
         turns_are_taken();
         let layout = cells.layout();
@@ -259,10 +259,10 @@ impl Log {
     /// Refuses with `NotDue` where that is not due, and on cells of another log; with `DiskFault` where
     /// the device failed, and then the log stands as if it had not: whoever calls stops.
     pub fn gate<D: Disk>(&mut self, cells: &mut Cells<D>) -> Result<(), Refusal>
-        ensures call { IsCall D.size D.failures D.honest (disk_of cells.old) (disk_of cells.new) (fault_of result) }
+        ensures call { Calls D.Disk (disk_of cells.old) (disk_of cells.new) (fault_of result) }
         ensures layout { layout_of cells.new ≡ layout_of cells.old }
         ensures refused { IfSome (step_refusal Step.Gate (layout_of cells.old) self.old) (λ e. IsRefused e self.old self.new (disk_of cells.old) (disk_of cells.new) result) }
-        ensures step { step_refusal Step.Gate (layout_of cells.old) self.old ≡ None → IsStep D.honest D.history (layout_of cells.old) self.old self.new (gated self.old) (λ sealed. sealed) (gate_of (layout_of cells.old) (log_of (layout_of cells.old) self.old.next)) (gate 0xA5) (disk_of cells.old) (disk_of cells.new) result }
+        ensures step { step_refusal Step.Gate (layout_of cells.old) self.old ≡ None → IsStep D.Disk (layout_of cells.old) self.old self.new (gated self.old) (λ sealed. sealed) (gate_of (layout_of cells.old) (log_of (layout_of cells.old) self.old.next)) (gate 0xA5) (disk_of cells.old) (disk_of cells.new) result }
     {
         turns_are_taken();
         let layout = cells.layout();

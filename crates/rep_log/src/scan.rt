@@ -4,8 +4,8 @@ ghost use Rattle.std.specs.Prelude.{◌≡◌, ◌+◌, ◌<◌, ◌≤◌, ◌%
 ghost use Rattle.rep_types.specs.declared.judged.Judged.{Judged};
 ghost use Rattle.rep_types.specs.declared.refusal.Refusal.TheVariants.{OutOfMemory};
 ghost use Rattle.rep_record.specs.declared.limits.TheConstants.{BLOCK};
-ghost use Rattle.rep_disk.specs.Calls.{IsCall};
 ghost use Rattle.rep_disk.specs.History.{seen, failed};
+ghost use Rattle.rep_disk.specs.Devices.{Calls, SameHistory};
 ghost use Rattle.rep_layout.specs.Places.{log_of};
 ghost use Rattle.rep_cells.specs.Readings.{reading_of};
 ghost use Rattle.rep_cells.specs.Device.{disk_of, layout_of};
@@ -155,9 +155,9 @@ impl Scan {
         requires cells { HasCells (layout_of cells.old) }
         requires room { length room.old ≡ BLOCK }
         ensures room { length room.new ≡ BLOCK }
-        ensures call { IsCall D.size D.failures D.honest (disk_of cells.old) (disk_of cells.new) (fault_of result) }
+        ensures call { Calls D.Disk (disk_of cells.old) (disk_of cells.new) (fault_of result) }
         ensures layout { layout_of cells.new ≡ layout_of cells.old }
-        ensures same { D.honest (disk_of cells.old) → D.history (disk_of cells.new) ≡ D.history (disk_of cells.old) }
+        ensures same { SameHistory D.Disk (disk_of cells.old) (disk_of cells.new) }
         ensures from { OnOk result (self.new.from ≡ self.old.from) }
         ensures stands { OnOk result (length self.new.stands ≡ MAX_CELLS) }
         ensures some { OnOk result ((cell : Option (List ℕ)) × Visits (layout_of cells.old) number cell self.old self.new) }

@@ -6,7 +6,7 @@ use Rattle.uuid.specs.Parts.{is_nil_bytes}
 use Rattle.rep_types.specs.declared.judged.Judged.{Judged}
 use Rattle.rep_record.specs.declared.limits.TheConstants.{MAX_RECORDS}
 use Rattle.rep_record.specs.Fronts.{fitting, FrontsAreDetermined}
-use Rattle.rep_disk.specs.History.{History}
+use Rattle.rep_disk.specs.declared.disk.Disk.{Ghosts}
 use Rattle.rep_log.specs.declared.phase.Phase.{Phase}
 use Rattle.rep_log.specs.declared.phase.Phase.TheVariants.{Resting, Closing, Filling, Filled, Opening}
 use Rattle.rep_engine.specs.Engines.{Engine, durable_of, facts_of}
@@ -36,7 +36,7 @@ accepted_fits (Opening n) block js = omega arith
 never : (b : Bool) → IsTrue b → IsFalse b → ⊥
 never b yes_it_is no_it_is = let e : true ≡ false = sym yes_it_is ∙ no_it_is in absurd cc
 
-module _ {D : Type 0} (honest : D → Type 0) (history : D → History) (failures : D → ℕ) (laws : HistoriesGoOn) (s : Start D) (number : ℕ) (items : List Judged) (d : Desk D) (q : Queue) (w : AreAtWork honest history failures s number items d q) where
+module _ {D : Type 0} (g : Ghosts D) (laws : HistoriesGoOn) (s : Start D) (number : ℕ) (items : List Judged) (d : Desk D) (q : Queue) (w : AreAtWork g s number items d q) where
   -- the items below the number are those that the engine has taken, and those that wait
   pub whole : w.queue.front ≡ w.work.desk.front ++ q.backlog
   whole =
@@ -66,7 +66,7 @@ module _ {D : Type 0} (honest : D → Type 0) (history : D → History) (failure
       let few = fronts.few d.engine.block q.backlog is.few in
       let same = as_many in omega (arith, fits, few, same, count)
 
-  pub come_next : TakenItemsStay honest history failures → ComeNext (facts_of failures d.engine) q.backlog
+  pub come_next : TakenItemsStay g → ComeNext (facts_of g d.engine) q.backlog
   come_next stays =
       let long = w.queue.below.long in
       let size : length w.queue.front ≡ length (w.work.desk.front ++ q.backlog) = ap length whole in
@@ -74,7 +74,7 @@ module _ {D : Type 0} (honest : D → Type 0) (history : D → History) (failure
       stays.comes s.desk.engine d.engine s.certifier.current w.work.desk.front q.backlog w.work.desk.taken legal_whole (omega (arith, long, size, limit)) (λ undefined. absurd (never (is_nil_bytes s.desk.engine.checkpoint.base.uuid) undefined w.work.begins.defined))
 
   -- the last that the engine has then accepted
-  pub accepted_last : (e : Engine D) (count accepted : ℕ) → count ≤ length q.backlog → TakesMore honest history failures d.engine q.backlog count e → accepted ≡ durable_of e.log + length e.block → accepted ≡ q.accepted + count
+  pub accepted_last : (e : Engine D) (count accepted : ℕ) → count ≤ length q.backlog → TakesMore g d.engine q.backlog count e → accepted ≡ durable_of e.log + length e.block → accepted ≡ q.accepted + count
   accepted_last e count accepted within takes is =
       let before = w.work.desk.taken.count in
       let after = (takes s.desk.engine s.certifier.current w.work.desk.front w.work.desk.taken legal_whole).count in
@@ -82,13 +82,13 @@ module _ {D : Type 0} (honest : D → Type 0) (history : D → History) (failure
       let longer = length-append w.work.desk.front (take count q.backlog) in
       let size : length (take count q.backlog) ≡ count = length-take-le count q.backlog within in omega (arith, before, after, common, longer, size, is)
 
-  pub accepted_rises : (e : Engine D) (count accepted : ℕ) → count ≤ length q.backlog → TakesMore honest history failures d.engine q.backlog count e → accepted ≡ durable_of e.log + length e.block → q.accepted ≤ accepted
+  pub accepted_rises : (e : Engine D) (count accepted : ℕ) → count ≤ length q.backlog → TakesMore g d.engine q.backlog count e → accepted ≡ durable_of e.log + length e.block → q.accepted ≤ accepted
   accepted_rises e count accepted within takes is = let last = accepted_last e count accepted within takes is in omega (arith, last)
 
   -- what the engine and the queue are then
-  pub accepted_next : (e : Engine D) (n count accepted : ℕ) (backlog : List Judged) → count ≤ length q.backlog → n ≡ count → TakesMore honest history failures d.engine q.backlog count e → backlog ≡ drop count q.backlog
+  pub accepted_next : (e : Engine D) (n count accepted : ℕ) (backlog : List Judged) → count ≤ length q.backlog → n ≡ count → TakesMore g d.engine q.backlog count e → backlog ≡ drop count q.backlog
       → e ≡ record (d.engine) { kept = e.kept; block = e.block } → accepted ≡ durable_of e.log + length e.block → (waiting : List Pair) → waiting ≡ d.waiting ++ shown (take n q.backlog)
-      → AreAtWork honest history failures s number items (record { engine = e; publisher = d.publisher; waiting = waiting }) (record { backlog = backlog; accepted = accepted })
+      → AreAtWork g s number items (record { engine = e; publisher = d.publisher; waiting = waiting }) (record { backlog = backlog; accepted = accepted })
   accepted_next e n count accepted backlog within same takes left rest is waiting waits =
       let c = s.certifier.current in
       let F = w.work.desk.front in
@@ -97,7 +97,7 @@ module _ {D : Type 0} (honest : D → Type 0) (history : D → History) (failure
       let log : e.log ≡ d.engine.log = ap (λ (z : Engine D). z.log) rest in
       let all : published d.publisher.list ++ waiting ≡ shown (F ++ take count q.backlog) = ap (λ l. published d.publisher.list ++ l) waits ∙ sym (append_assoc (published d.publisher.list) d.waiting (shown (take n q.backlog))) ∙ ap (λ l. l ++ shown (take n q.backlog)) p.shown_or_waits
       ∙ sym (shown_both F (take n q.backlog)) ∙ ap (λ k. shown (F ++ take k q.backlog)) same in
-      let taken : HasTaken honest history failures s.desk.engine c (F ++ take count q.backlog) e = takes s.desk.engine c F w.work.desk.taken legal_whole in
+      let taken : HasTaken g s.desk.engine c (F ++ take count q.backlog) e = takes s.desk.engine c F w.work.desk.taken legal_whole in
       let parts : w.queue.front ≡ (F ++ take count q.backlog) ++ drop count q.backlog = whole ∙ ap (λ l. F ++ l) (sym (take-append-drop count q.backlog)) ∙ sym (append_assoc F (take count q.backlog) (drop count q.backlog)) in
       let last = accepted_last e count accepted within takes is in record {
         work = record {

@@ -2,7 +2,7 @@
 use Rattle.std.proofs.Common.{◌≡◌, ℕ, ◌+◌, ◌≤◌, max, List, [], ◌∷◌, ◌++◌, length, None, refl, sym, ap, subst, ◌∙◌, arith}
 use Rattle.std.proofs.lemmas.List.{length-map}
 use Rattle.rep_types.specs.declared.judged.Judged.{Judged}
-use Rattle.rep_disk.specs.History.{History}
+use Rattle.rep_disk.specs.declared.disk.Disk.{Ghosts}
 use Rattle.rep_cert.specs.Holdings.{Holding, Holdings}
 use Rattle.rep_engine.specs.Engines.{Engine, durable_of}
 use Rattle.rep_snap.specs.declared.change.Pair.{Pair}
@@ -17,18 +17,18 @@ use Rattle.rep_node.specs.Keeping.{AtWork, HasStepped, common_of_desk}
 use Rattle.rep_node.specs.Checking.{IsPruned}
 use Rattle.rep_node.proofs.Publishes.{oldest_least, shown_both, shown_front}
 
-module _ {D : Type 0} (honest : D → Type 0) (history : D → History) (failures : D → ℕ) (s : Start D) (items : List Judged) where
+module _ {D : Type 0} (g : Ghosts D) (s : Start D) (items : List Judged) where
   -- ---- a step of the engine
 
-  module _ (d : Desk D) (w : AtWork honest history failures s items d) (e : Engine D) (stays : (first : Engine D) (c : Holding) (items : List Judged) → HasTaken honest history failures first c items d.engine → HasTaken honest history failures first c items e) where
-    taken_still : HasTaken honest history failures s.desk.engine s.certifier.current w.desk.front e
+  module _ (d : Desk D) (w : AtWork g s items d) (e : Engine D) (stays : (first : Engine D) (c : Holding) (items : List Judged) → HasTaken g first c items d.engine → HasTaken g first c items e) where
+    taken_still : HasTaken g s.desk.engine s.certifier.current w.desk.front e
     taken_still = stays s.desk.engine s.certifier.current w.desk.front w.desk.taken
 
     pub same_common : durable_of e.log + length e.block ≡ common_of_desk d
     same_common = let after = taken_still.count in let before = w.desk.taken.count in omega (arith, after, before)
 
     -- one that failed is to be given up
-    pub step_failed : durable_of d.engine.log ≤ durable_of e.log → DeskAt honest history failures s 1 items (record (d) { engine = e })
+    pub step_failed : durable_of d.engine.log ≤ durable_of e.log → DeskAt g s 1 items (record (d) { engine = e })
     step_failed rises = record {
       front = w.desk.front;
       begins = w.desk.begins;
@@ -41,7 +41,7 @@ module _ {D : Type 0} (honest : D → Type 0) (history : D → History) (failure
     }
 
     -- readers find no snapshot gone above the base still
-    pub step_done : e.halted ≡ None → durable_of d.engine.log ≤ durable_of e.log → d.engine.checkpoint.base.position ≤ e.checkpoint.base.position → HasStepped honest history failures s items (record (d) { engine = e })
+    pub step_done : e.halted ≡ None → durable_of d.engine.log ≤ durable_of e.log → d.engine.checkpoint.base.position ≤ e.checkpoint.base.position → HasStepped g s items (record (d) { engine = e })
     step_done works rises base = let was = w.desk.shown refl in record {
       begins = w.begins;
       legal = w.legal;
@@ -57,7 +57,7 @@ module _ {D : Type 0} (honest : D → Type 0) (history : D → History) (failure
 
   -- ---- what is durable behind it is published
 
-  module _ (d : Desk D) (h : HasStepped honest history failures s items d) where
+  module _ (d : Desk D) (h : HasStepped g s items d) where
     -- what is published and what waits is of the items that the engine has taken
     as_long : length (published d.publisher.list ++ d.waiting) ≡ length h.front
     as_long = ap length h.waits ∙ length-map h.front _
@@ -84,7 +84,7 @@ module _ {D : Type 0} (honest : D → Type 0) (history : D → History) (failure
     is_behind = let start = start_is in let behind = h.behind in omega (arith, start, behind)
 
     module _ (p : Listing Origin) (waiting : List Pair) (same : (p.book ≡ d.publisher.book) × (p.basis ≡ d.publisher.basis) × (p.start ≡ d.publisher.start)) where
-      pub given_up : published p.list ++ waiting ≡ published d.publisher.list ++ d.waiting → d.publisher.start + length (published p.list) ≤ durable_of d.engine.log → DeskAt honest history failures s 1 items (record { engine = d.engine; publisher = p; waiting = waiting })
+      pub given_up : published p.list ++ waiting ≡ published d.publisher.list ++ d.waiting → d.publisher.start + length (published p.list) ≤ durable_of d.engine.log → DeskAt g s 1 items (record { engine = d.engine; publisher = p; waiting = waiting })
       given_up whole behind = record {
         front = h.front;
         begins = h.starts;
@@ -97,7 +97,7 @@ module _ {D : Type 0} (honest : D → Type 0) (history : D → History) (failure
       }
 
       pub works_on : published p.list ++ waiting ≡ published d.publisher.list ++ d.waiting → oldest_of d.publisher.start p.list ≡ oldest_of d.publisher.start d.publisher.list → d.publisher.start + length (published p.list) ≡ durable_of d.engine.log
-          → AtWork honest history failures s items (record { engine = d.engine; publisher = p; waiting = waiting })
+          → AtWork g s items (record { engine = d.engine; publisher = p; waiting = waiting })
       works_on whole oldest durable = record {
         begins = h.begins;
         legal = h.legal;
@@ -119,12 +119,12 @@ module _ {D : Type 0} (honest : D → Type 0) (history : D → History) (failure
 
   -- ---- readers' snapshots below the base are let go
 
-  module _ (d : Desk D) (w : AtWork honest history failures s items d) (p : Listing Origin) (same : (p.book ≡ d.publisher.book) × (p.basis ≡ d.publisher.basis) × (p.start ≡ d.publisher.start)) where
+  module _ (d : Desk D) (w : AtWork g s items d) (p : Listing Origin) (same : (p.book ≡ d.publisher.book) × (p.basis ≡ d.publisher.basis) × (p.start ≡ d.publisher.start)) where
     started_at : d.publisher.start ≡ position_of s
     started_at = w.desk.publisher.2 ∙ w.begins.start
 
     pub pruned_works : (base : ℕ) → base ≡ d.engine.checkpoint.base.position → published p.list ≡ published d.publisher.list → oldest_of d.publisher.start p.list ≡ max (oldest_of d.publisher.start d.publisher.list) base
-        → AtWork honest history failures s items (record { engine = d.engine; publisher = p; waiting = d.waiting })
+        → AtWork g s items (record { engine = d.engine; publisher = p; waiting = d.waiting })
     pruned_works base is list oldest = let before = w.desk.shown refl in record {
       begins = w.begins;
       legal = w.legal;

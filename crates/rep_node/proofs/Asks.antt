@@ -8,14 +8,14 @@ use Rattle.rep_types.specs.declared.refusal.Part.TheVariants.{Pages}
 use Rattle.rep_types.specs.declared.refusal.Refusal.{Refusal}
 use Rattle.rep_types.specs.declared.refusal.Refusal.TheVariants.{OutOfMemory, DiskFault, Stopped, TooOld, NotYet, BadKey, Corrupt}
 use Rattle.rep_types.specs.Settings.{Setting, has_row}
-use Rattle.rep_disk.specs.History.{History}
+use Rattle.rep_disk.specs.declared.disk.Disk.{Ghosts}
 use Rattle.rep_log.specs.declared.phase.Phase.{Phase}
 use Rattle.rep_steps.specs.declared.event.Event.TheVariants.{Read}
 use Rattle.rep_steps.specs.declared.answer.Answer.TheVariants.{Row, Refused}
 use Rattle.rep_steps.specs.Standings.{Standing, read_refusal, refusal}
 use Rattle.rep_steps.specs.Moves.{Moves}
 use Rattle.rep_steps.specs.Nodes.{Node, Steps}
-use Rattle.rep_engine.specs.Engines.{Engine, durable_of, facts_of}
+use Rattle.rep_engine.specs.Engines.{Engine, durable_of, facts_of, OnlyAsks}
 use Rattle.rep_engine.specs.Holding.{Holds, row}
 use Rattle.rep_cert.specs.Holdings.{Holding}
 use Rattle.rep_stations.specs.Judging.{Legal}
@@ -87,46 +87,46 @@ never_corrupt n m key at steps =
     ])
     (λ r is told. never_corrupt_refusal n.facts key at n.facts.stopped r is (let same : Refused (Corrupt Pages) ≡ Refused r = told.0 in cc))
 
-module _ {D : Type 0} (honest : D → Type 0) (history : D → History) (failures : D → ℕ) (e new : Engine D) (key : Key) (at : ℕ) (works : e.halted ≡ None) where
+module _ {D : Type 0} (g : Ghosts D) (e new : Engine D) (key : Key) (at : ℕ) (works : e.halted ≡ None) where
   -- what is refused is refused for what is asked
-  running : refusal (facts_of failures e) (Read key at) ≡ read_refusal (facts_of failures e) key at
-  running = ap (λ (o : Option Phase). if is_some o then Some Stopped else read_refusal (facts_of failures e) key at) works
+  running : refusal (facts_of g e) (Read key at) ≡ read_refusal (facts_of g e) key at
+  running = ap (λ (o : Option Phase). if is_some o then Some Stopped else read_refusal (facts_of g e) key at) works
 
-  refused_so : (r : Refusal) → Moves (facts_of failures e) (Read key at) (Refused r) (facts_of failures new) → ((n : Node) → Holds honest history failures n e → (m : Node) × Steps n (Read key at) (Refused r) m × Holds honest history failures m new) → EngineRefuses honest history failures e key at r
+  refused_so : (r : Refusal) → Moves (facts_of g e) (Read key at) (Refused r) (facts_of g new) → ((n : Node) → Holds g n e → (m : Node) × Steps n (Read key at) (Refused r) m × Holds g m new) → EngineRefuses g e key at r
   refused_so r moves steps =
-      by_refusal _ _ (EngineRefuses honest history failures e key at r) (refusal (facts_of failures e) (Read key at)) moves
+      by_refusal _ _ (EngineRefuses g e key at r) (refusal (facts_of g e) (Read key at)) moves
       (λ _ went. elim went [
         | inl done ↦ absurd (let never : Refused r ≡ Row _ = done.1 in cc)
         | inr other ↦ elim other [
           | inl fails ↦ elim fails [
             | inl memory ↦ absurd (let never : false ≡ true = memory.0 in cc)
-            | inr device ↦ let same : r ≡ DiskFault = (let is : Refused r ≡ Refused DiskFault = device.1 in cc) in subst (EngineRefuses honest history failures e key at) (sym same) tt
+            | inr device ↦ let same : r ≡ DiskFault = (let is : Refused r ≡ Refused DiskFault = device.1 in cc) in subst (EngineRefuses g e key at) (sym same) tt
           ]
           | inr corrupt ↦ let same : r ≡ Corrupt Pages = (let is : Refused r ≡ Refused (Corrupt Pages) = corrupt.1 in cc) in
-              subst (EngineRefuses honest history failures e key at) (sym same) (
+              subst (EngineRefuses g e key at) (sym same) (
                 refl,
                 λ n holds. let step = steps n holds in never_corrupt n step.0 key at (subst (λ (x : Refusal). Steps n (Read key at) (Refused x) step.0) same step.1),
               )
         ]
       ])
       (λ x is told. let same : x ≡ r = (let alike : Refused r ≡ Refused x = told.0 in cc) in
-      subst (EngineRefuses honest history failures e key at) same
-      (by_tests (EngineRefuses honest history failures e key at) (has_row e.checkpoint.base.params.rows key) (nat_lt (durable_of e.log) at) (nat_lt at e.checkpoint.base.position) (durable_of e.log) e.checkpoint.base.position x (sym running ∙ is)
+      subst (EngineRefuses g e key at) same
+      (by_tests (EngineRefuses g e key at) (has_row e.checkpoint.base.params.rows key) (nat_lt (durable_of e.log) at) (nat_lt at e.checkpoint.base.position) (durable_of e.log) e.checkpoint.base.position x (sym running ∙ is)
       (λ outside. outside) (λ late. (refl, ltb-true (durable_of e.log) at late)) (λ early. ltb-true at e.checkpoint.base.position early)))
 
-  pub engine_refuses : (result : Result (Option (List ℕ)) Refusal) → Moves (facts_of failures e) (Read key at) (row result) (facts_of failures new) → ((n : Node) → Holds honest history failures n e → (m : Node) × Steps n (Read key at) (row result) m × Holds honest history failures m new)
-      → IfErr result (EngineRefuses honest history failures e key at)
+  pub engine_refuses : (result : Result (Option (List ℕ)) Refusal) → Moves (facts_of g e) (Read key at) (row result) (facts_of g new) → ((n : Node) → Holds g n e → (m : Node) × Steps n (Read key at) (row result) m × Holds g m new)
+      → IfErr result (EngineRefuses g e key at)
   engine_refuses (Ok x) moves steps = tt
   engine_refuses (Err r) moves steps = refused_so r moves steps
 
-  row_reaches : (x : Option (List ℕ)) → Moves (facts_of failures e) (Read key at) (Row x) (facts_of failures new) → at ≤ durable_of e.log
+  row_reaches : (x : Option (List ℕ)) → Moves (facts_of g e) (Read key at) (Row x) (facts_of g new) → at ≤ durable_of e.log
   row_reaches x moves =
-      by_refusal _ _ (at ≤ durable_of e.log) (refusal (facts_of failures e) (Read key at)) moves
+      by_refusal _ _ (at ≤ durable_of e.log) (refusal (facts_of g e) (Read key at)) moves
       (λ none _. ltb-false (durable_of e.log) at (not_above (has_row e.checkpoint.base.params.rows key) (nat_lt (durable_of e.log) at) (nat_lt at e.checkpoint.base.position) (durable_of e.log) e.checkpoint.base.position (sym running ∙ none)))
       (λ r _ told. absurd (let never : Row x ≡ Refused r = told.0 in cc))
 
-  pub engine_rows : HistoriesExtendTheOrder honest history failures → (result : Result (Option (List ℕ)) Refusal) → Moves (facts_of failures e) (Read key at) (row result) (facts_of failures new)
-      → ((n : Node) → Holds honest history failures n e → (m : Node) × Steps n (Read key at) (row result) m × Holds honest history failures m new) → IfOk result (IsRowAt honest history failures e key at)
+  pub engine_rows : HistoriesExtendTheOrder g → (result : Result (Option (List ℕ)) Refusal) → Moves (facts_of g e) (Read key at) (row result) (facts_of g new)
+      → ((n : Node) → Holds g n e → (m : Node) × Steps n (Read key at) (row result) m × Holds g m new) → IfOk result (IsRowAt g e key at)
   engine_rows laws (Ok x) moves steps = record {
     reaches = row_reaches x moves;
     row = λ L n first c items of starts legal taken. elim (laws.rows L n first e c items of starts legal taken new key at (Row x) steps) [
@@ -138,10 +138,10 @@ module _ {D : Type 0} (honest : D → Type 0) (history : D → History) (failure
 
 -- ---- the desk, once its engine was read
 
-module _ {D : Type 0} (honest : D → Type 0) (history : D → History) (failures : D → ℕ) (s : Start D) (items : List Judged) (d : Desk D) (here : DeskAt honest history failures s 0 items d) (e : Engine D) (still : e ≡ record d.engine { disk = e.disk; halted = e.halted })
-    (stays : (first : Engine D) (c : Holding) (items : List Judged) → HasTaken honest history failures first c items d.engine → HasTaken honest history failures first c items e) where
-  read_as : (given : ℕ) (x : D) (halted : Option Phase) → HasTaken honest history failures s.desk.engine s.certifier.current here.front (record d.engine { disk = x; halted = halted }) → (given ≡ 0 → halted ≡ None)
-      → DeskAt honest history failures s given items (record { engine = record d.engine { disk = x; halted = halted }; publisher = d.publisher; waiting = d.waiting })
+module _ {D : Type 0} (g : Ghosts D) (s : Start D) (items : List Judged) (d : Desk D) (here : DeskAt g s 0 items d) (e : Engine D) (still : OnlyAsks d.engine e)
+    (stays : (first : Engine D) (c : Holding) (items : List Judged) → HasTaken g first c items d.engine → HasTaken g first c items e) where
+  read_as : (given : ℕ) (x : D) (halted : Option Phase) → HasTaken g s.desk.engine s.certifier.current here.front (record d.engine { disk = x; halted = halted }) → (given ≡ 0 → halted ≡ None)
+      → DeskAt g s given items (record { engine = record d.engine { disk = x; halted = halted }; publisher = d.publisher; waiting = d.waiting })
   read_as given x halted taken works = record {
     front = here.front;
     begins = here.begins;
@@ -153,25 +153,25 @@ module _ {D : Type 0} (honest : D → Type 0) (history : D → History) (failure
     shown = λ _. let h = here.shown refl in record { shown_or_waits = h.shown_or_waits; durable = h.durable; oldest = h.oldest };
   }
 
-  pub desk_read : (given : ℕ) → (given ≡ 0 → e.halted ≡ None) → DeskAt honest history failures s given items (record { engine = e; publisher = d.publisher; waiting = d.waiting })
+  pub desk_read : (given : ℕ) → (given ≡ 0 → e.halted ≡ None) → DeskAt g s given items (record { engine = e; publisher = d.publisher; waiting = d.waiting })
   desk_read given works =
-      subst (λ (x : Engine D). DeskAt honest history failures s given items (record { engine = x; publisher = d.publisher; waiting = d.waiting })) (sym still)
-      (read_as given e.disk e.halted (subst (HasTaken honest history failures s.desk.engine s.certifier.current here.front) still (stays s.desk.engine s.certifier.current here.front here.taken)) works)
+      subst (λ (x : Engine D). DeskAt g s given items (record { engine = x; publisher = d.publisher; waiting = d.waiting })) (sym still)
+      (read_as given e.disk e.halted (subst (HasTaken g s.desk.engine s.certifier.current here.front) still (stays s.desk.engine s.certifier.current here.front here.taken)) works)
 
 -- the seat is at it still
-pub at_read : {D : Type 0} (honest : D → Type 0) (history : D → History) (failures : D → ℕ) (v u : View (Home D) Judged) (d : Desk D) (e : Engine D) → AtDesk honest history failures 0 v u d → e ≡ record d.engine { disk = e.disk; halted = e.halted }
-    → ((first : Engine D) (c : Holding) (items : List Judged) → HasTaken honest history failures first c items d.engine → HasTaken honest history failures first c items e) → (given : ℕ) → (given ≡ 0 → e.halted ≡ None)
-    → AtDesk honest history failures given v u (record { engine = e; publisher = d.publisher; waiting = d.waiting })
-at_read honest history failures v u d e a still stays given works =
+pub at_read : {D : Type 0} (g : Ghosts D) (v u : View (Home D) Judged) (d : Desk D) (e : Engine D) → AtDesk g 0 v u d → OnlyAsks d.engine e
+    → ((first : Engine D) (c : Holding) (items : List Judged) → HasTaken g first c items d.engine → HasTaken g first c items e) → (given : ℕ) → (given ≡ 0 → e.halted ≡ None)
+    → AtDesk g given v u (record { engine = e; publisher = d.publisher; waiting = d.waiting })
+at_read g v u d e a still stays given works =
     let log : durable_of e.log ≡ durable_of d.engine.log = ap (λ (z : Engine _). durable_of z.log) still in
     let common : durable_of e.log + length e.block ≡ durable_of d.engine.log + length d.engine.block = ap (λ (z : Engine _). durable_of z.log + length z.block) still in
-    desk_moved honest history failures 0 v u d a given (record { engine = e; publisher = d.publisher; waiting = d.waiting }) (omega (arith, log)) common (λ s first. desk_read honest history failures s u.seen d (a.desk s first) e still stays given works)
+    desk_moved g 0 v u d a given (record { engine = e; publisher = d.publisher; waiting = d.waiting }) (omega (arith, log)) common (λ s first. desk_read g s u.seen d (a.desk s first) e still stays given works)
 
 -- ---- what a seat says that asked it
 
-module _ {D : Type 0} (honest : D → Type 0) (history : D → History) (failures : D → ℕ) (v t : View (Home D) Judged) (d : Desk D) (here : (s : Start D) → v.first ≡ values_of s → DeskAt honest history failures s 0 t.seen d)
+module _ {D : Type 0} (g : Ghosts D) (v t : View (Home D) Judged) (d : Desk D) (here : (s : Start D) → v.first ≡ values_of s → DeskAt g s 0 t.seen d)
     (legal : (s : Start D) → v.first ≡ values_of s → Legal s.certifier.current t.seen) (key : Key) (at : ℕ) where
-  pub row_asked : HistoriesGoOn → (x : Option (List ℕ)) → IsRowAt honest history failures d.engine key at x → (s : Start D) → v.first ≡ values_of s → (r : Watching Origin) → IsRowOf honest history failures s t r key at x
+  pub row_asked : HistoriesGoOn → (x : Option (List ℕ)) → IsRowAt g d.engine key at x → (s : Start D) → v.first ≡ values_of s → (r : Watching Origin) → IsRowOf g s t r key at x
   row_asked laws x told s is r =
       let desk = here s is in
       let front : Legal s.certifier.current desk.front = laws.legal_front s.certifier.current desk.front desk.begins.0 (subst (Legal s.certifier.current) desk.begins.1 (legal s is)) in record {
@@ -185,7 +185,7 @@ module _ {D : Type 0} (honest : D → Type 0) (history : D → History) (failure
   outside_not : (start : Start D) → v.first ≡ values_of start → has_row start.certifier.current.setting.rows key ≡ true → has_row d.engine.checkpoint.base.params.rows key ≡ false → ⊥
   outside_not start first inside outside = let desk = here start first in let both : true ≡ false = sym inside ∙ (sym (ap (λ (p : Setting). has_row p.rows key) desk.taken.setting) ∙ outside) in absurd cc
 
-  refuses_asked : (start : Start D) → v.first ≡ values_of start → has_row start.certifier.current.setting.rows key ≡ true → t.durable ≤ durable_of d.engine.log → (e : Refusal) → (e ≡ DiskFault → t.halted ≡ 1) → EngineRefuses honest history failures d.engine key at e → RefusesAsked honest history failures v t key at e
+  refuses_asked : (start : Start D) → v.first ≡ values_of start → has_row start.certifier.current.setting.rows key ≡ true → t.durable ≤ durable_of d.engine.log → (e : Refusal) → (e ≡ DiskFault → t.halted ≡ 1) → EngineRefuses g d.engine key at e → RefusesAsked g v t key at e
   refuses_asked start first inside known BadKey fault h = outside_not start first inside h
   refuses_asked start first inside known (NotYet durable) fault h = (h.1, let is = h.0 in omega (arith, is, known))
   refuses_asked start first inside known (TooOld oldest) fault h = h
@@ -194,11 +194,11 @@ module _ {D : Type 0} (honest : D → Type 0) (history : D → History) (failure
   refuses_asked start first inside known (Corrupt part) fault h = (h.0, λ s is n starts. let stands = (here s is).taken.stands n starts in h.1 stands.0 stands.2)
   refuses_asked start first inside known e fault h = h
 
-  pub rows_asked : HistoriesGoOn → (result : Result (Option (List ℕ)) Refusal) → IfOk result (IsRowAt honest history failures d.engine key at) → IfOk result (λ x. (s : Start D) → v.first ≡ values_of s → (r : Watching Origin) → IsRowOf honest history failures s t r key at x)
+  pub rows_asked : HistoriesGoOn → (result : Result (Option (List ℕ)) Refusal) → IfOk result (IsRowAt g d.engine key at) → IfOk result (λ x. (s : Start D) → v.first ≡ values_of s → (r : Watching Origin) → IsRowOf g s t r key at x)
   rows_asked laws (Ok x) told = row_asked laws x told
   rows_asked laws (Err e) told = tt
 
-  pub refusals_asked : (start : Start D) → v.first ≡ values_of start → has_row start.certifier.current.setting.rows key ≡ true → t.durable ≤ durable_of d.engine.log → (result : Result (Option (List ℕ)) Refusal) → (result ≡ Err DiskFault → t.halted ≡ 1) → IfErr result (EngineRefuses honest history failures d.engine key at)
-      → IfErr result (RefusesAsked honest history failures v t key at)
+  pub refusals_asked : (start : Start D) → v.first ≡ values_of start → has_row start.certifier.current.setting.rows key ≡ true → t.durable ≤ durable_of d.engine.log → (result : Result (Option (List ℕ)) Refusal) → (result ≡ Err DiskFault → t.halted ≡ 1) → IfErr result (EngineRefuses g d.engine key at)
+      → IfErr result (RefusesAsked g v t key at)
   refusals_asked start first inside known (Ok x) fault h = tt
   refusals_asked start first inside known (Err e) fault h = refuses_asked start first inside known e (λ is. fault (ap (λ z. Err z) is)) h

@@ -1,8 +1,8 @@
 -- A seat of the node while it is at the engine, which it entered from the side, and once it has left it.
-use Rattle.std.proofs.Common.{◌≡◌, ℕ, ◌+◌, ◌*◌, ◌%◌, ◌<◌, ◌≤◌, None, Option, [], ◌∷◌, refl, sym, ap, subst, ◌∙◌, arith}
+use Rattle.std.proofs.Common.{◌≡◌, ℕ, ◌+◌, ◌*◌, ◌%◌, ◌<◌, ◌≤◌, None, [], ◌∷◌, sym, ap, subst, ◌∙◌, arith}
 use Rattle.atomic_table.specs.Seated.{TableId}
 use Rattle.rep_types.specs.declared.judged.Judged.{Judged}
-use Rattle.rep_disk.specs.History.{History}
+use Rattle.rep_disk.specs.declared.disk.Disk.{Ghosts}
 use Rattle.rep_ordered.specs.declared.view.Hold.{Hold}
 use Rattle.rep_ordered.specs.declared.view.View.{View}
 use Rattle.rep_ordered.specs.Seats.{Place, seat_of}
@@ -77,11 +77,11 @@ module _ {D : Type 0} where
   pub idle_on : (u v w : View (Home D) Judged) → Went u v → v.own ≡ u.own → v.joined ≡ u.joined → WentIdle v w → WentIdle u w
   idle_on u v w went own joined h = (went_on u v w went h.0, h.1 ∙ own, h.2 ∙ joined, subst (λ first. Sees (IsLegal first) w) went.goes.first h.3)
 
-module _ {D : Type 0} (honest : D → Type 0) (history : D → History) (failures : D → ℕ) where
+module _ {D : Type 0} (g : Ghosts D) where
   -- it entered the station, holding nothing
-  pub came : (v w : View (Home D) Judged) (n : ℕ) (x : Home D) → v.held ≡ [] → Entered (IsLegal v.first) (AtHome honest history failures v.first) durable_in common_in 1 n 2 v w x → AtEngine v w n (durable_in x) (common_in x)
+  pub came : (v w : View (Home D) Judged) (n : ℕ) (x : Home D) → v.held ≡ [] → Entered (IsLegal v.first) (AtHome g v.first) durable_in common_in 1 n 2 v w x → AtEngine v w n (durable_in x) (common_in x)
   came v w n x free e = record {
-    goes = goes_entered (IsLegal v.first) (AtHome honest history failures v.first) durable_in common_in 1 n 2 v w x e;
+    goes = goes_entered (IsLegal v.first) (AtHome g v.first) durable_in common_in 1 n 2 v w x e;
     own = ap (λ (z : View (Home D) Judged). z.own) e.view;
     joined = ap (λ (z : View (Home D) Judged). z.joined) e.view;
     kept = ap (λ (z : View (Home D) Judged). z.given_up) e.view;
@@ -91,9 +91,9 @@ module _ {D : Type 0} (honest : D → Type 0) (history : D → History) (failure
   }
 
   -- it entered and left the queue besides, which then names this number
-  pub looked : (v u w t : View (Home D) Judged) (n floor common m k d c : ℕ) (x : Home D) → AtEngine v u n floor common → Entered (IsLegal u.first) (AtHome honest history failures u.first) durable_in common_in 2 m 2 u w x → t ≡ without None 2 k d c w → AtEngine v t n floor c
+  pub looked : (v u w t : View (Home D) Judged) (n floor common m k d c : ℕ) (x : Home D) → AtEngine v u n floor common → Entered (IsLegal u.first) (AtHome g u.first) durable_in common_in 2 m 2 u w x → t ≡ without None 2 k d c w → AtEngine v t n floor c
   looked v u w t n floor common m k d c x a e left =
-      let through = goes_through (IsLegal u.first) (AtHome honest history failures u.first) durable_in common_in 2 m 2 k d c None u w w t x e (later_same w) left in
+      let through = goes_through (IsLegal u.first) (AtHome g u.first) durable_in common_in 2 m 2 k d c None u w w t x e (later_same w) left in
       record {
         goes = goes_on v u t a.goes through.0;
         own = ap (λ (z : View (Home D) Judged). z.own) left ∙ (ap (λ (z : View (Home D) Judged). z.own) e.view ∙ a.own);

@@ -19,7 +19,7 @@ use Rattle.rep_types.specs.declared.judged.Judged.{Judged}
 use Rattle.rep_types.specs.declared.verdict.Verdict.{Verdict}
 use Rattle.rep_types.specs.declared.refusal.Refusal.{Refusal}
 use Rattle.rep_types.specs.declared.refusal.Refusal.TheVariants.{Exhausted, OutOfMemory, Stopped}
-use Rattle.rep_disk.specs.History.{History}
+use Rattle.rep_disk.specs.declared.disk.Disk.{Ghosts}
 use Rattle.rep_ordered.specs.declared.view.Joined.{Joined}
 use Rattle.rep_ordered.specs.declared.view.View.{View}
 use Rattle.rep_ordered.specs.Counts.{one, total, times}
@@ -288,16 +288,16 @@ halts_low (Some r) halted runs stopped = let one = stopped.1 in omega (arith, on
 
 -- ---- a worker
 
-module _ {D : Type 0} (honest : D → Type 0) (history : D → History) (failures : D → ℕ) where
+module _ {D : Type 0} (g : Ghosts D) where
   -- What a worker has come to, who began with this view, when it is at this place.
   pub record AtPlace (items : List Item) (from place : ℕ) (v w : View (Home D) Judged) (rs : List Receipt) : Type 0 where
     pub went : Went v w
-    pub seat : IsSeat honest history failures w
+    pub seat : IsSeat g w
     pub passed : PassedOrStopped w
     pub part : IsPart items from place (v.start + length v.seen) w.durable w.own w.joined rs
     pub all : IsAll from place w.own rs
 
-  pub at_first : (items : List Item) (from : ℕ) (v : View (Home D) Judged) (rs : List Receipt) → IsSeat honest history failures v → v.held ≡ [] → v.own ≡ [] → v.joined ≡ [] → rs ≡ [] → AtPlace items from from v v rs
+  pub at_first : (items : List Item) (from : ℕ) (v : View (Home D) Judged) (rs : List Receipt) → IsSeat g v → v.held ≡ [] → v.own ≡ [] → v.joined ≡ [] → rs ≡ [] → AtPlace items from from v v rs
   at_first items from v rs seat free own joined none = record {
     went = went_same v free;
     seat = seat;
@@ -310,7 +310,7 @@ module _ {D : Type 0} (honest : D → Type 0) (history : D → History) (failure
   begun : (v w : View (Home D) Judged) → Went v w → v.start + length v.seen ≤ w.start + length w.seen
   begun v w went = let s = went.goes.start in let l = shorter w.seen v.seen went.goes.seen in omega arith
 
-  pub at_next : (items : List Item) (from place seqno : ℕ) (verdict : Verdict) (item : Item) (v w u : View (Home D) Judged) (rs : List Receipt) → AtPlace items from place v w rs → from ≤ place → slice_get items place ≡ Some item → DrewOne honest history failures seqno w u → (PassedOrStopped w → PassedOrStopped u)
+  pub at_next : (items : List Item) (from place seqno : ℕ) (verdict : Verdict) (item : Item) (v w u : View (Home D) Judged) (rs : List Receipt) → AtPlace items from place v w rs → from ≤ place → slice_get items place ≡ Some item → DrewOne g seqno w u → (PassedOrStopped w → PassedOrStopped u)
       → IsGiven item seqno verdict w u → AtPlace items from (place + 1) v u (rs ++ record { index = place; seqno = seqno; verdict = verdict } ∷ [])
   at_next items from place seqno verdict item v w u rs a low at drew passed given = record {
     went = went_on v w u a.went drew.went;
@@ -322,7 +322,7 @@ module _ {D : Type 0} (honest : D → Type 0) (history : D → History) (failure
         record { count = omega (arith, length-append rs (record { index = place; seqno = seqno; verdict = verdict } ∷ [])); drawn = omega (arith, length-append w.own (seqno ∷ []), length-append rs (record { index = place; seqno = seqno; verdict = verdict } ∷ [])) };
   }
 
-  pub at_refused : (items : List Item) (from place to number : ℕ) (item : Item) (v w u : View (Home D) Judged) (rs : List Receipt) → AtPlace items from place v w rs → from ≤ place → place < to → slice_get items place ≡ Some item → DrewOne honest history failures number w u → Joins item w u
+  pub at_refused : (items : List Item) (from place to number : ℕ) (item : Item) (v w u : View (Home D) Judged) (rs : List Receipt) → AtPlace items from place v w rs → from ≤ place → place < to → slice_get items place ≡ Some item → DrewOne g number w u → Joins item w u
       → IsPart items from to (v.start + length v.seen) u.durable u.own u.joined rs
   at_refused items from place to number item v w u rs a low below at drew joins = subst (λ (l : List ℕ). IsPart items from to (v.start + length v.seen) u.durable l u.joined rs) (sym drew.own)
       (part_stopped items from place to (v.start + length v.seen) w.durable u.durable number (w.start + length w.seen) w.own w.joined u.joined rs item low below at drew.went.goes.durable joins a.part)
@@ -330,10 +330,10 @@ module _ {D : Type 0} (honest : D → Type 0) (history : D → History) (failure
 module _ {D : Type 0} where
   -- ---- jobs
 
-  pub ready_of : (honest : D → Type 0) (history : D → History) (failures : D → ℕ) (table : TableId) (v : View (Home D) Judged) (count : ℕ) (j : Job D) → IsSeat honest history failures v → IsJob table v count j → IsReady honest history failures table count j
-  ready_of honest history failures table v count j s h = let is : j.seat.view ≡ given (j.to - j.from) v = ap (λ (z : Place (Home D) Judged). z.view) h.seat in record {
+  pub ready_of : (g : Ghosts D) (table : TableId) (v : View (Home D) Judged) (count : ℕ) (j : Job D) → IsSeat g v → IsJob table v count j → IsReady g table count j
+  ready_of g table v count j s h = let is : j.seat.view ≡ given (j.to - j.from) v = ap (λ (z : Place (Home D) Judged). z.view) h.seat in record {
     lock = ap (λ (z : Place (Home D) Judged). z.lock) h.seat;
-    seat = subst (IsSeat honest history failures) (sym is) record { start = s.start; first = s.first; begins = s.begins; number = s.number; whole = s.whole; once = λ x. omega arith };
+    seat = subst (IsSeat g) (sym is) record { start = s.start; first = s.first; begins = s.begins; number = s.number; whole = s.whole; once = λ x. omega arith };
     free = ap (λ (z : View (Home D) Judged). z.held) is;
     fresh = (ap (λ (z : View (Home D) Judged). z.own) is, ap (λ (z : View (Home D) Judged). z.joined) is, h.fresh);
     range = h.range;
@@ -454,8 +454,8 @@ module _ {D : Type 0} where
 
   -- ---- all seats have come together
 
-  pub seat_giving : (honest : D → Type 0) (history : D → History) (failures : D → ℕ) (n : ℕ) (v a : View (Home D) Judged) → a ≡ giving n v → IsSeat honest history failures v → IsSeat honest history failures a
-  seat_giving honest history failures n v a is s = subst (IsSeat honest history failures) (sym is) record { start = s.start; first = s.first; begins = s.begins; number = s.number; whole = s.whole; once = s.once }
+  pub seat_giving : (g : Ghosts D) (n : ℕ) (v a : View (Home D) Judged) → a ≡ giving n v → IsSeat g v → IsSeat g a
+  seat_giving g n v a is s = subst (IsSeat g) (sym is) record { start = s.start; first = s.first; begins = s.begins; number = s.number; whole = s.whole; once = s.once }
 
   pub job_giving : (table : TableId) (n count : ℕ) (v a : View (Home D) Judged) (j : Job D) → a ≡ giving n v → IsJob table v count j → IsJob table a count j
   job_giving table n count v a j is h = subst (λ z. IsJob table z count j) (sym is) record { seat = h.seat; range = h.range; room = h.room; fresh = h.fresh }

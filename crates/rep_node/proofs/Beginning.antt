@@ -6,7 +6,7 @@ use Rattle.uuid.specs.Parts.{is_nil_bytes}
 use Rattle.rep_types.specs.declared.judged.Judged.{Judged}
 use Rattle.rep_types.specs.declared.limits.TheConstants.{MAX_SEQNO}
 use Rattle.rep_types.specs.Settings.{Setting}
-use Rattle.rep_disk.specs.History.{History}
+use Rattle.rep_disk.specs.declared.disk.Disk.{Ghosts}
 use Rattle.rep_cert.specs.Holdings.{Holdings}
 use Rattle.rep_engine.specs.Engines.{Engine, durable_of, facts_of}
 use Rattle.rep_engine.specs.Checking.{HoldsWindows}
@@ -35,31 +35,31 @@ runs true halted is = absurd (let never : true ≡ false = is in cc)
 runs false None is = (refl, refl)
 runs false (Some x) is = absurd (let never : true ≡ false = is in cc)
 
-module _ {D : Type 0} (honest : D → Type 0) (history : D → History) (failures : D → ℕ) where
+module _ {D : Type 0} (g : Ghosts D) where
   pub is_running : (r : Replica D) (stopped : Bool) → stopped ≡ (r.stopped || is_some r.engine.halted) → stopped ≡ false → IsRunning r
   is_running r stopped is running = let both = runs r.stopped r.engine.halted (sym is ∙ running) in record { inside = both.0; device = both.1 }
 
   -- ---- a replica that is put together from the same parts
 
-  pub again : (r : Replica D) (c : Holdings) (backlog : List Judged) (e : Engine D) → c ≡ r.certifier → backlog ≡ r.backlog → e ≡ r.engine → r.stopped ≡ false → IsReplica (facts_of failures r.engine) r.backlog r.certifier.current r.stopped → IsReplica (facts_of failures e) backlog c.current false
+  pub again : (r : Replica D) (c : Holdings) (backlog : List Judged) (e : Engine D) → c ≡ r.certifier → backlog ≡ r.backlog → e ≡ r.engine → r.stopped ≡ false → IsReplica (facts_of g r.engine) r.backlog r.certifier.current r.stopped → IsReplica (facts_of g e) backlog c.current false
   again r c backlog e same_certifier same_backlog same_engine running is =
-      subst (λ (z : Holdings × List Judged × Engine D × Bool). IsReplica (facts_of failures z.2) z.1 z.0.current z.3) (λ i. (sym same_certifier i, sym same_backlog i, sym same_engine i, running i)) is
+      subst (λ (z : Holdings × List Judged × Engine D × Bool). IsReplica (facts_of g z.2) z.1 z.0.current z.3) (λ i. (sym same_certifier i, sym same_backlog i, sym same_engine i, running i)) is
 
   pub same_replica : (r new : Replica D) (c : Holdings) (backlog : List Judged) (e : Engine D) → new ≡ record { engine = e; backlog = backlog; certifier = c; stopped = false } → c ≡ r.certifier → backlog ≡ r.backlog → e ≡ r.engine → r.stopped ≡ false → new ≡ r
   same_replica r new c backlog e is same_certifier same_backlog same_engine running = is ∙ (λ i. record { engine = same_engine i; backlog = same_backlog i; certifier = same_certifier i; stopped = sym running i })
 
   -- ---- what the node is started with
 
-  pub begins : (r : Replica D) (s : Start D) (position : ℕ) → PartsBegin honest history failures r → r.engine.halted ≡ None → IsFalse (is_nil_bytes r.engine.checkpoint.base.uuid)
+  pub begins : (r : Replica D) (s : Start D) (position : ℕ) → PartsBegin g r → r.engine.halted ≡ None → IsFalse (is_nil_bytes r.engine.checkpoint.base.uuid)
       → s.certifier ≡ r.certifier → s.queue.backlog ≡ r.backlog → s.desk.engine ≡ r.engine → position ≡ durable_of s.desk.engine.log
-      → s.desk.publisher.basis.certifier.log ≡ s.certifier ∷ [] → s.desk.publisher.start ≡ position → s.desk.publisher.list ≡ [] → s.desk.waiting ≡ [] → s.queue.accepted ≡ position → Begins honest history failures s
+      → s.desk.publisher.basis.certifier.log ≡ s.certifier ∷ [] → s.desk.publisher.start ≡ position → s.desk.publisher.list ≡ [] → s.desk.waiting ≡ [] → s.queue.accepted ≡ position → Begins g s
   begins r s position parts works defined same_certifier same_backlog same_engine at_durable origin start list waiting accepted =
       let durable : durable_of s.desk.engine.log ≡ durable_of r.engine.log = ap (λ (e : Engine D). durable_of e.log) same_engine in
       let delivered : position_of s ≡ r.certifier.current.delivered = ap (λ (c : Holdings). c.current.delivered) same_certifier in let parts_at = parts.at in
       let at : position_of s ≡ durable_of s.desk.engine.log = delivered ∙ (parts.at ∙ sym durable) in let at_position : position ≡ position_of s = at_durable ∙ sym at in record {
         judged = subst (λ (c : Holdings). HasJudged c.current [] c.current) (sym same_certifier) parts.judged;
         windows = subst (λ (c : Holdings). HoldsWindows c.current) (sym same_certifier) parts.windows;
-        taken = subst (λ (z : Engine D × Holdings). HasTaken honest history failures z.0 z.1.current [] z.0) (λ i. (sym same_engine i, sym same_certifier i)) parts.taken;
+        taken = subst (λ (z : Engine D × Holdings). HasTaken g z.0 z.1.current [] z.0) (λ i. (sym same_engine i, sym same_certifier i)) parts.taken;
         at = at;
         works = ap (λ (e : Engine D). e.halted) same_engine ∙ works;
         defined = subst (λ (e : Engine D). IsFalse (is_nil_bytes e.checkpoint.base.uuid)) (sym same_engine) defined;
@@ -72,10 +72,10 @@ module _ {D : Type 0} (honest : D → Type 0) (history : D → History) (failure
       }
 
   -- the engine's block is empty, so engine and queue name the position
-  common_begins : (s : Start D) → Begins honest history failures s → durable_of s.desk.engine.log + length s.desk.engine.block ≡ position_of s
+  common_begins : (s : Start D) → Begins g s → durable_of s.desk.engine.log + length s.desk.engine.block ≡ position_of s
   common_begins s b = let count = b.taken.count in omega arith
 
-  pub all_name : (s : Start D) (values : List (Home D)) → Begins honest history failures s → values ≡ values_of s → AllName common_in values
+  pub all_name : (s : Start D) (values : List (Home D)) → Begins g s → values ≡ values_of s → AllName common_in values
   all_name s values b is = subst (λ (vs : List (Home D)). AllName common_in vs) (sym is) (position_of s, name)
     where
       name : (j : ℕ) (x : Home D) → slice_get (values_of s) j ≡ Some x → 0 < names j → common_in x ≡ position_of s
@@ -84,10 +84,10 @@ module _ {D : Type 0} (honest : D → Type 0) (history : D → History) (failure
       name (suc (suc zero)) x found some = subst (λ (h : Home D). common_in h ≡ position_of s) (same_Some _ _ found) b.accepted
       name (suc (suc (suc j))) x found some = absurd (let never : None ≡ Some x = found in cc)
 
-  certifier_begins : (s : Start D) (position : ℕ) → Begins honest history failures s → position ≡ position_of s → CertifierAt s (position + 1) [] position s.certifier.current
+  certifier_begins : (s : Start D) (position : ℕ) → Begins g s → position ≡ position_of s → CertifierAt s (position + 1) [] position s.certifier.current
   certifier_begins s position b at = record { front = []; below = record { begins = ([], refl); long = omega arith }; room = omega arith; judged = b.judged }
 
-  desk_begins : (s : Start D) → Begins honest history failures s → DeskAt honest history failures s 0 [] s.desk
+  desk_begins : (s : Start D) → Begins g s → DeskAt g s 0 [] s.desk
   desk_begins s b = record {
     front = [];
     begins = ([], refl);
@@ -103,7 +103,7 @@ module _ {D : Type 0} (honest : D → Type 0) (history : D → History) (failure
     };
   }
 
-  queue_begins : HistoriesGoOn → (s : Start D) (position : ℕ) → Begins honest history failures s → position ≡ position_of s → QueueAt s (position + 1) [] s.queue
+  queue_begins : HistoriesGoOn → (s : Start D) (position : ℕ) → Begins g s → position ≡ position_of s → QueueAt s (position + 1) [] s.queue
   queue_begins laws s position b at = record {
     front = [];
     below = record { begins = ([], refl); long = omega arith };
@@ -111,13 +111,13 @@ module _ {D : Type 0} (honest : D → Type 0) (history : D → History) (failure
   }
 
   abbrev Meet : ℕ → List (Home D) → Type 0
-  Meet position values = AllMeet (IsLegal values) (AtHome honest history failures values) durable_in common_in (position + 1) position values
+  Meet position values = AllMeet (IsLegal values) (AtHome g values) durable_in common_in (position + 1) position values
 
-  pub all_meet : HistoriesGoOn → (s : Start D) (position : ℕ) (values : List (Home D)) → Begins honest history failures s → position ≡ position_of s → values ≡ values_of s → Meet position values
+  pub all_meet : HistoriesGoOn → (s : Start D) (position : ℕ) (values : List (Home D)) → Begins g s → position ≡ position_of s → values ≡ values_of s → Meet position values
   all_meet laws s position values b at is = subst (Meet position) (sym is) meet
     where
       Lies : ℕ → Home D → Type 0
-      Lies j h = AtHome honest history failures (values_of s) j (position + 1) 0 [] position h × (j ≡ 1 → position ≤ durable_in h)
+      Lies j h = AtHome g (values_of s) j (position + 1) 0 [] position h × (j ≡ 1 → position ≤ durable_in h)
 
       meet : (j : ℕ) (x : Home D) → slice_get (values_of s) j ≡ Some x → Lies j x
       meet zero x found = subst (Lies 0) (same_Some _ _ found) (
@@ -125,7 +125,7 @@ module _ {D : Type 0} (honest : D → Type 0) (history : D → History) (failure
         λ (one : ◌≡◌ {A = ℕ} 0 1). absurd (omega arith),
       )
       meet (suc zero) x found = subst (Lies 1) (same_Some _ _ found) (
-        (refl, of_the_start (λ (t : Start D). DeskAt honest history failures t 0 [] s.desk) (values_of s) s refl (desk_begins s b)),
+        (refl, of_the_start (λ (t : Start D). DeskAt g t 0 [] s.desk) (values_of s) s refl (desk_begins s b)),
         λ (_ : ◌≡◌ {A = ℕ} 1 1). let durable = b.at in omega arith,
       )
       meet (suc (suc zero)) x found = subst (Lies 2) (same_Some _ _ found) (
@@ -136,9 +136,9 @@ module _ {D : Type 0} (honest : D → Type 0) (history : D → History) (failure
 
   -- ---- the first seat
 
-  pub first_seat : (s : Start D) (position : ℕ) (values : List (Home D)) (lock : TableId) (seat : Place (Home D) Judged) → Begins honest history failures s → position ≡ position_of s → position ≤ MAX_SEQNO → values ≡ values_of s
-      → seat ≡ seat_of lock (opened durable_in common_in (position + 1) (MAX_SEQNO - position) values position) → Rests honest history failures seat.view (MAX_SEQNO - position)
-  first_seat s position values lock seat b at limit is opens = subst (λ (z : Place (Home D) Judged). Rests honest history failures z.view (MAX_SEQNO - position)) (sym opens) record {
+  pub first_seat : (s : Start D) (position : ℕ) (values : List (Home D)) (lock : TableId) (seat : Place (Home D) Judged) → Begins g s → position ≡ position_of s → position ≤ MAX_SEQNO → values ≡ values_of s
+      → seat ≡ seat_of lock (opened durable_in common_in (position + 1) (MAX_SEQNO - position) values position) → Rests g seat.view (MAX_SEQNO - position)
+  first_seat s position values lock seat b at limit is opens = subst (λ (z : Place (Home D) Judged). Rests g z.view (MAX_SEQNO - position)) (sym opens) record {
     seat = record { start = s; first = is; begins = b; number = omega arith; whole = omega arith; once = λ x. omega arith };
     free = refl;
     less = omega arith;

@@ -5,7 +5,7 @@ use mathlib.Core.Logic.{dite}
 use native.Mathlib.Decide.{ℕ_discrete}
 use Rattle.rep_types.specs.declared.judged.Judged.{Judged}
 use Rattle.rep_types.specs.Order.{items_of}
-use Rattle.rep_disk.specs.History.{History}
+use Rattle.rep_disk.specs.declared.disk.Disk.{Ghosts}
 use Rattle.rep_engine.specs.Engines.{durable_of}
 use Rattle.rep_replica.specs.Replicas.{Replica}
 use Rattle.rep_replica.specs.Holding.{Holds}
@@ -49,12 +49,12 @@ was_halted stopped bit before halted same last is low = (λ yes. sym last ∙ is
 abbrev pub replica_of : {D : Type 0} → Start D → Bool → Replica D
 replica_of t stopped = record { engine = t.desk.engine; backlog = t.queue.backlog; certifier = t.certifier; stopped = stopped }
 
-module _ {D : Type 0} (honest : D → Type 0) (history : D → History) (failures : D → ℕ) where
+module _ {D : Type 0} (g : Ghosts D) where
   abbrev pub ClosedBy : View (Home D) Judged → List (Option (Home D)) → Type 0
-  ClosedBy v values = Closed (IsLegal v.first) (AtHome honest history failures v.first) durable_in common_in v values
+  ClosedBy v values = Closed (IsLegal v.first) (AtHome g v.first) durable_in common_in v values
 
   abbrev Closes : View (Home D) Judged → ℕ → ℕ → ℕ → Option (Home D) → Type 0
-  Closes v durable common j found = ClosedAt (IsLegal v.first) (AtHome honest history failures v.first) durable_in common_in v durable common j found
+  Closes v durable common j found = ClosedAt (IsLegal v.first) (AtHome g v.first) durable_in common_in v durable common j found
 
   -- without a halt the queue's turn is behind the last number that was drawn
   all_passed : (v : View (Home D) Judged) (number : ℕ) → ((x : ℕ) → times x v.own + once_below x v.start ≡ once_below x (v.start + length v.own)) → v.halted ≡ 0 → PassedOrStopped v → v.start ≤ number → reached_at 2 v.reached ≤ number → v.start + length v.own ≤ number
@@ -68,7 +68,7 @@ module _ {D : Type 0} (honest : D → Type 0) (history : D → History) (failure
     pub durable : ℕ
     pub given : ℕ
     pub certifier : CertifierAt s (v.start + length v.seen) v.seen durable t.certifier.current
-    pub desk : DeskAt honest history failures s given v.seen t.desk
+    pub desk : DeskAt g s given v.seen t.desk
     pub queue : QueueAt s number v.seen t.queue
     pub backed : durable ≤ durable_of t.desk.engine.log
     pub known : v.durable ≤ durable
@@ -82,25 +82,25 @@ module _ {D : Type 0} (honest : D → Type 0) (history : D → History) (failure
       → Closes v closed.durable closed.common 0 x → Closes v closed.durable closed.common 1 y → Closes v closed.durable closed.common 2 z
       → (t : Start D) × (x ≡ Some (AtFirst t.certifier)) × (y ≡ Some (AtSecond t.desk)) × (z ≡ Some (AtThird t.queue)) × Closing v s t
   closing v values closed s x y z is passed a b c =
-      let f = certifier_found honest history failures v.first a.number a.given closed.durable v.seen a.value a.keeps in
-      let e = desk_found honest history failures v.first b.number b.given closed.durable v.seen b.value b.keeps in
-      let g = queue_found honest history failures v.first c.number c.given closed.durable v.seen c.value c.keeps in
-      let t : Start D = record { certifier = f.0; desk = e.0; queue = g.0 } in
+      let f = certifier_found g v.first a.number a.given closed.durable v.seen a.value a.keeps in
+      let e = desk_found g v.first b.number b.given closed.durable v.seen b.value b.keeps in
+      let found = queue_found g v.first c.number c.given closed.durable v.seen c.value c.keeps in
+      let t : Start D = record { certifier = f.0; desk = e.0; queue = found.0 } in
       let place = a.place refl in let within = a.within in let limit = a.limit in
       let common_desk : durable_of t.desk.engine.log + length t.desk.engine.block ≡ closed.common = sym (ap common_in e.1) ∙ b.common (omega arith) in
-      let common_queue : t.queue.accepted ≡ closed.common = sym (ap common_in g.1) ∙ c.common (omega arith) in
+      let common_queue : t.queue.accepted ≡ closed.common = sym (ap common_in found.1) ∙ c.common (omega arith) in
       let backed = (b.backed refl).1 in let durable : durable_in b.value ≡ durable_of t.desk.engine.log = ap durable_in e.1 in (
         t,
         a.is ∙ ap Some f.1,
         b.is ∙ ap Some e.1,
-        c.is ∙ ap Some g.1,
+        c.is ∙ ap Some found.1,
         record {
           number = c.number;
           durable = closed.durable;
           given = b.given;
-          certifier = subst (λ n. CertifierAt s n v.seen closed.durable t.certifier.current) (sym place) (at_first honest history failures v.first a.number a.given closed.durable v.seen a.value t.certifier a.keeps f.1 s is);
-          desk = at_second honest history failures v.first b.number b.given closed.durable v.seen b.value t.desk b.keeps e.1 s is;
-          queue = at_third honest history failures v.first c.number c.given closed.durable v.seen c.value t.queue c.keeps g.1 s is;
+          certifier = subst (λ n. CertifierAt s n v.seen closed.durable t.certifier.current) (sym place) (at_first g v.first a.number a.given closed.durable v.seen a.value t.certifier a.keeps f.1 s is);
+          desk = at_second g v.first b.number b.given closed.durable v.seen b.value t.desk b.keeps e.1 s is;
+          queue = at_third g v.first c.number c.given closed.durable v.seen c.value t.queue c.keeps found.1 s is;
           backed = omega arith;
           known = closed.known;
           common = common_desk ∙ sym common_queue;
@@ -136,8 +136,8 @@ module _ {D : Type 0} (honest : D → Type 0) (history : D → History) (failure
   all_judged : (v : View (Home D) Judged) (s t : Start D) → Closing v s t → v.start ≡ position_of s + 1 → HasJudged s.certifier.current v.seen t.certifier.current
   all_judged v s t c starts = let long = c.certifier.below.long in let all : c.certifier.front ≡ v.seen = whole_front v.seen c.certifier.front c.certifier.below.begins (omega arith) in subst (λ front. HasJudged s.certifier.current front t.certifier.current) all c.certifier.judged
 
-  parts_end : HistoriesGoOn → (v : View (Home D) Judged) (seat : IsSeat honest history failures v) (t : Start D) (c : Closing v seat.start t) → IsLegalBehind seat.start.certifier.current v.seen → (stopped : Bool) → (stopped ≡ false → v.halted ≡ 0)
-      → Ends honest history failures seat.start.desk.engine seat.start.certifier.current v.seen c.desk.front c.desk.begins.0 (replica_of t stopped)
+  parts_end : HistoriesGoOn → (v : View (Home D) Judged) (seat : IsSeat g v) (t : Start D) (c : Closing v seat.start t) → IsLegalBehind seat.start.certifier.current v.seen → (stopped : Bool) → (stopped ≡ false → v.halted ≡ 0)
+      → Ends g seat.start.desk.engine seat.start.certifier.current v.seen c.desk.front c.desk.begins.0 (replica_of t stopped)
   parts_end laws v seat t c legal stopped was = let starts = seat.number in let judged = all_judged v seat.start t c starts in let delivered = judged.delivered in let room = c.certifier.room in let backed = c.backed in let limit = c.limit in record {
     whole = c.desk.begins.1;
     legal = legal.legal;
@@ -151,8 +151,8 @@ module _ {D : Type 0} (honest : D → Type 0) (history : D → History) (failure
     waiting = λ running. all_wait laws v seat.start t c starts (was running);
   }
 
-  pub ends_as : HistoriesGoOn → HistoriesLieBetweenReplicas honest history failures → HistoriesExtendTheOrder honest history failures → (v : View (Home D) Judged) (values : List (Option (Home D))) → ClosedBy v values → (seat : IsSeat honest history failures v) (t : Start D) → Closing v seat.start t
-      → (stopped : Bool) → (stopped ≡ false → v.halted ≡ 0) → EndsAs honest history failures v (replica_of t stopped)
+  pub ends_as : HistoriesGoOn → HistoriesLieBetweenReplicas g → HistoriesExtendTheOrder g → (v : View (Home D) Judged) (values : List (Option (Home D))) → ClosedBy v values → (seat : IsSeat g v) (t : Start D) → Closing v seat.start t
+      → (stopped : Bool) → (stopped ≡ false → v.halted ≡ 0) → EndsAs g v (replica_of t stopped)
   ends_as laws between extend v values closed seat t c stopped was = let s : Start D = seat.start in let known = c.known in let backed = c.backed in let legal = closed.sees.legal s seat.first in let ends = parts_end laws v seat t c legal stopped was in record {
     start = s;
     first = seat.first;
@@ -173,7 +173,7 @@ module _ {D : Type 0} (honest : D → Type 0) (history : D → History) (failure
   }
 
   -- what was so after a last look was so before, where nothing more was seen
-  pub ends_before : (v w : View (Home D) Judged) (r : Replica D) → Later v w → w.halted ≡ v.halted → w.seen ≡ v.seen → EndsAs honest history failures w r → EndsAs honest history failures v r
+  pub ends_before : (v w : View (Home D) Judged) (r : Replica D) → Later v w → w.halted ≡ v.halted → w.seen ≡ v.seen → EndsAs g w r → EndsAs g v r
   ends_before v w r later halted seen e = let durable = later.durable in let known = e.durable in let drawn = e.drawn in
       let own : length w.own ≡ length v.own = ap (λ (z : View (Home D) Judged). length z.own) later.same in let as_long : length w.seen ≡ length v.seen = ap length seen in record {
         start = e.start;
@@ -181,22 +181,22 @@ module _ {D : Type 0} (honest : D → Type 0) (history : D → History) (failure
         one = λ s is. e.one s (ap (λ (z : View (Home D) Judged). z.first) later.same ∙ is);
         taken = e.taken;
         waits = e.waits;
-        ends = subst (λ items. Ends honest history failures e.start.desk.engine e.start.certifier.current items e.taken e.waits r) seen e.ends;
+        ends = subst (λ items. Ends g e.start.desk.engine e.start.certifier.current items e.taken e.waits r) seen e.ends;
         durable = omega arith;
         numbers = λ x. subst (λ (z : View (Home D) Judged). times x z.own + once_below x z.start ≡ once_below x (z.start + length z.own)) later.same (e.numbers x);
         drawn = omega arith;
         whole = λ running. let all = e.whole (halted ∙ running) in omega arith;
         works = λ running. e.works (halted ∙ running);
-        stands = λ L n of starts running. subst (λ items. (m : Node) × IsOf (L ++ items_of items) m × Holds honest history failures m r) seen (e.stands L n of starts running);
+        stands = λ L n of starts running. subst (λ items. (m : Node) × IsOf (L ++ items_of items) m × Holds g m r) seen (e.stands L n of starts running);
         images = e.images;
       }
 
   -- the node's end, after a last look at the front
-  pub close_parts : HistoriesGoOn → HistoriesLieBetweenReplicas honest history failures → HistoriesExtendTheOrder honest history failures → (v w : View (Home D) Judged) (values : List (Option (Home D))) → Later v w → (w.halted ≡ v.halted) × (w.seen ≡ v.seen) → v.held ≡ []
-      → IsSeat honest history failures v → PassedOrStopped v → ClosedBy w values → length values ≡ 3
-      → (t : Start D) × (values ≡ map Some (values_of t)) × ((stopped : Bool) → (stopped ≡ false → w.halted ≡ 0) → EndsAs honest history failures v (replica_of t stopped))
+  pub close_parts : HistoriesGoOn → HistoriesLieBetweenReplicas g → HistoriesExtendTheOrder g → (v w : View (Home D) Judged) (values : List (Option (Home D))) → Later v w → (w.halted ≡ v.halted) × (w.seen ≡ v.seen) → v.held ≡ []
+      → IsSeat g v → PassedOrStopped v → ClosedBy w values → length values ≡ 3
+      → (t : Start D) × (values ≡ map Some (values_of t)) × ((stopped : Bool) → (stopped ≡ false → w.halted ≡ 0) → EndsAs g v (replica_of t stopped))
   close_parts laws between extend v w values later last free seat passed closed three = let halted = last.0 in
-      let still : IsSeat honest history failures w = subst (IsSeat honest history failures) (sym later.same) record { start = seat.start; first = seat.first; begins = seat.begins; number = seat.number; whole = seat.whole; once = seat.once } in
+      let still : IsSeat g w = subst (IsSeat g) (sym later.same) record { start = seat.start; first = seat.first; begins = seat.begins; number = seat.number; whole = seat.whole; once = seat.once } in
       let passed_still : PassedOrStopped w = subst PassedOrStopped (sym later.same) (λ running. passed (sym halted ∙ running)) in
       let t = closed_homes w values closed three still.start still.first (ap (λ (z : View (Home D) Judged). z.held) later.same ∙ free) passed_still in
       (t.0, t.1, λ stopped was. ends_before v w (replica_of t.0 stopped) later last.0 last.1 (ends_as laws between extend w values closed still t.0 t.2 stopped was))

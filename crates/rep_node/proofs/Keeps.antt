@@ -3,7 +3,7 @@ use Rattle.std.proofs.Common.{◌≡◌, ℕ, ◌+◌, ◌-◌, ◌≤◌, List,
 use Rattle.std.proofs.lemmas.List.{length-map, take-append-le}
 use Rattle.rep_types.specs.declared.judged.Judged.{Judged}
 use Rattle.rep_types.specs.declared.refusal.Refusal.{Refusal}
-use Rattle.rep_disk.specs.History.{History}
+use Rattle.rep_disk.specs.declared.disk.Disk.{Ghosts}
 use Rattle.rep_engine.specs.Engines.{durable_of}
 use Rattle.rep_snap.specs.Lists.{published}
 use Rattle.rep_ordered.specs.declared.view.View.{View}
@@ -34,13 +34,13 @@ told_ok_so P r x is h = subst (λ (z : Result _ Refusal). IfOk z P) is h
 pub told_err : {T : Type 0} (P : Refusal → Type 0) (r : Result T Refusal) (e : Refusal) → r ≡ Err e → IfErr r P → P e
 told_err P r e is h = subst (λ (z : Result _ Refusal). IfErr z P) is h
 
-module _ {D : Type 0} (honest : D → Type 0) (history : D → History) (failures : D → ℕ) where
+module _ {D : Type 0} (g : Ghosts D) where
   -- it lies there still as the history grows
-  pub desk_grown : (s : Start D) (given : ℕ) (items later : List Judged) (d : Desk D) → DeskAt honest history failures s given items d → StartsWith later items → DeskAt honest history failures s given later d
+  pub desk_grown : (s : Start D) (given : ℕ) (items later : List Judged) (d : Desk D) → DeskAt g s given items d → StartsWith later items → DeskAt g s given later d
   desk_grown s given items later d h more = record { front = h.front; begins = begins_on h.front items later h.begins more; taken = h.taken; publisher = h.publisher; works = h.works; ahead = h.ahead; fronts = h.fronts; shown = h.shown }
 
   -- what holds of a seat between two calls
-  pub invariant_idle : (v w : View (Home D) Judged) (allowance : ℕ) → Rests honest history failures v allowance → WentIdle v w → Rests honest history failures w allowance
+  pub invariant_idle : (v w : View (Home D) Judged) (allowance : ℕ) → Rests g v allowance → WentIdle v w → Rests g w allowance
   invariant_idle v w allowance h idle =
       let goes = idle.0.goes in
       let kept = goes.kept in
@@ -48,7 +48,7 @@ module _ {D : Type 0} (honest : D → Type 0) (history : D → History) (failure
       let same : w.allowance ≡ v.allowance = omega (arith, kept, own) in
       let few = h.less in
       let halts = goes.halted in record {
-        seat = seat_still honest history failures v w goes idle.1 h.seat;
+        seat = seat_still g v w goes idle.1 h.seat;
         free = idle.0.free;
         less = omega (arith, same, few);
         left = λ running. h.left (omega (arith, halts, running)) ∙ sym same;
@@ -56,7 +56,7 @@ module _ {D : Type 0} (honest : D → Type 0) (history : D → History) (failure
         passed = passed_went v w idle.0 idle.1 h.passed;
       }
 
-  module _ (s : Start D) (items later : List Judged) (d : Desk D) (h : AtWork honest history failures s items d) (more : StartsWith later items) where
+  module _ (s : Start D) (items later : List Judged) (d : Desk D) (h : AtWork g s items d) (more : StartsWith later items) where
     -- nothing before the start is said to be durable
     pub is_least : position_of s ≤ durable_of d.engine.log
     is_least = h.desk.taken.rises

@@ -1,7 +1,7 @@
 -- A seat of the node that holds the certifier from the side, and then the engine too, to which it lends the certifier.
 use Rattle.std.proofs.Common.{◌≡◌, ℕ, ◌+◌, ◌*◌, ◌<◌, ◌≤◌, None, List, [], ◌∷◌, ◌++◌, length, refl, sym, ap, subst, ◌∙◌, arith}
 use Rattle.rep_types.specs.declared.judged.Judged.{Judged}
-use Rattle.rep_disk.specs.History.{History}
+use Rattle.rep_disk.specs.declared.disk.Disk.{Ghosts}
 use Rattle.rep_cert.specs.Holdings.{Holding, Holdings}
 use Rattle.rep_engine.specs.Engines.{Engine, durable_of}
 use Rattle.rep_stations.specs.Judging.{HasJudged}
@@ -23,13 +23,13 @@ use Rattle.rep_node.specs.Keeping.{AtDesk, AtEngine}
 certifier_later : {D : Type 0} (s : Start D) (n : ℕ) (items later : List Judged) (durable up : ℕ) (h : Holding) → CertifierAt s n items durable h → StartsWith later items → durable ≤ up → CertifierAt s n later up h
 certifier_later s n items later durable up h at begins rises = let room = at.room in record { front = at.front; below = record { begins = begins_on at.front items later at.below.begins begins; long = at.below.long }; room = omega arith; judged = at.judged }
 
-module _ {D : Type 0} (honest : D → Type 0) (history : D → History) (failures : D → ℕ) (v w : View (Home D) Judged) (n : ℕ) (x : Home D) (c : Holdings) (seat : IsSeat honest history failures v) (free : v.held ≡ [])
-    (e : Entered (IsLegal v.first) (AtHome honest history failures v.first) durable_in common_in 0 n 2 v w x) (is : x ≡ AtFirst c) where
+module _ {D : Type 0} (g : Ghosts D) (v w : View (Home D) Judged) (n : ℕ) (x : Home D) (c : Holdings) (seat : IsSeat g v) (free : v.held ≡ [])
+    (e : Entered (IsLegal v.first) (AtHome g v.first) durable_in common_in 0 n 2 v w x) (is : x ≡ AtFirst c) where
   first_is : w.first ≡ v.first
   first_is = ap (λ (z : View (Home D) Judged). z.first) e.view
 
   certifier_at : (s : Start D) → v.first ≡ values_of s → CertifierAt s n w.seen w.durable c.current
-  certifier_at = at_first honest history failures v.first n 0 w.durable w.seen x c e.keeps is
+  certifier_at = at_first g v.first n 0 w.durable w.seen x c e.keeps is
 
   -- what the certifier is still, where the engine could not be entered
   module _ (l : View (Home D) Judged) (later : Later w l) where
@@ -41,7 +41,7 @@ module _ {D : Type 0} (honest : D → Type 0) (history : D → History) (failure
 
     pub left_again : Sees (IsLegal w.first) l → (t : View (Home D) Judged) (m d k : ℕ) → t ≡ without None 0 m d k l → WentIdle v t
     left_again sees t m d k left = (
-      went_through (IsLegal v.first) (AtHome honest history failures v.first) durable_in common_in 0 n 2 m d k None v w l t x free e later left,
+      went_through (IsLegal v.first) (AtHome g v.first) durable_in common_in 0 n 2 m d k None v w l t x free e later left,
       ap (λ (z : View (Home D) Judged). z.own) left ∙ (ap (λ (z : View (Home D) Judged). z.own) later.same ∙ ap (λ (z : View (Home D) Judged). z.own) e.view),
       ap (λ (z : View (Home D) Judged). z.joined) left ∙ (ap (λ (z : View (Home D) Judged). z.joined) later.same ∙ ap (λ (z : View (Home D) Judged). z.joined) e.view),
       sees_left (IsLegal v.first) 0 m d k l t (subst (λ first. Sees (IsLegal first) l) first_is sees) left,
@@ -49,7 +49,7 @@ module _ {D : Type 0} (honest : D → Type 0) (history : D → History) (failure
 
   -- ---- it enters the engine's station too
 
-  module _ (u : View (Home D) Judged) (m : ℕ) (y : Home D) (d : Desk D) (f : Entered (IsLegal w.first) (AtHome honest history failures w.first) durable_in common_in 1 m 2 w u y) (this : y ≡ AtSecond d) where
+  module _ (u : View (Home D) Judged) (m : ℕ) (y : Home D) (d : Desk D) (f : Entered (IsLegal w.first) (AtHome g w.first) durable_in common_in 1 m 2 w u y) (this : y ≡ AtSecond d) where
     holds_first : w.held ≡ hold 0 (4 * n + 2) (durable_in x) ∷ []
     holds_first = ap (λ (z : View (Home D) Judged). z.held) e.view ∙ ap (λ hs. hold 0 (4 * n + 2) (durable_in x) ∷ hs) free
 
@@ -60,14 +60,14 @@ module _ {D : Type 0} (honest : D → Type 0) (history : D → History) (failure
     same_first : u.first ≡ v.first
     same_first = ap (λ (z : View (Home D) Judged). z.first) f.view ∙ first_is
 
-    pub desk_at : (s : Start D) → v.first ≡ values_of s → DeskAt honest history failures s 0 u.seen d
-    desk_at s first = at_second honest history failures w.first m 0 u.durable u.seen y d f.keeps this s (first_is ∙ first)
+    pub desk_at : (s : Start D) → v.first ≡ values_of s → DeskAt g s 0 u.seen d
+    desk_at s first = at_second g w.first m 0 u.durable u.seen y d f.keeps this s (first_is ∙ first)
 
     pub durable_known : v.durable ≤ durable_of d.engine.log
     durable_known = let a = e.durable in let b = f.durable in let known = (f.backed refl).1 in let same : durable_in y ≡ durable_of d.engine.log = ap durable_in this in omega (arith, a, b, known, same)
 
     -- the certifier can be lent
-    pub may_lend : (s : Start D) (first : v.first ≡ values_of s) → MayLend honest history failures s (desk_at s first).front (desk_at s first).begins.0 c.current d.engine
+    pub may_lend : (s : Start D) (first : v.first ≡ values_of s) → MayLend g s (desk_at s first).front (desk_at s first).begins.0 c.current d.engine
     may_lend s first =
         let at = certifier_at s first in
         let here = desk_at s first in
@@ -76,7 +76,7 @@ module _ {D : Type 0} (honest : D → Type 0) (history : D → History) (failure
         let judged : HasJudged s.certifier.current w.seen c.current = all_judged s n w.seen w.durable c.current at (omega (arith, start, place)) in
         let whole : w.seen ≡ here.front ++ here.begins.0 = sym seen_is ∙ here.begins.1 in
         record {
-          begins = subst (λ (z : Start D). Rattle.rep_node.specs.Homes.Begins honest history failures z) (Rattle.rep_node.proofs.Standing.one_start v.first seat.start s seat.first first) seat.begins;
+          begins = subst (λ (z : Start D). Rattle.rep_node.specs.Homes.Begins g z) (Rattle.rep_node.proofs.Standing.one_start v.first seat.start s seat.first first) seat.begins;
           legal = subst (IsLegalBehind s.certifier.current) (here.begins.1) (f.sees.legal s (first_is ∙ first));
           judged = subst (λ l. HasJudged s.certifier.current l c.current) whole judged;
           engine = here.taken;
@@ -93,8 +93,8 @@ module _ {D : Type 0} (honest : D → Type 0) (history : D → History) (failure
       -- it is at the engine alone
       pub at_engine : AtEngine v t m (durable_of d.engine.log) (common_in (AtSecond d))
       at_engine = record {
-        goes = goes_on v w t (goes_entered (IsLegal v.first) (AtHome honest history failures v.first) durable_in common_in 0 n 2 v w x e)
-            (goes_on w u t (goes_entered (IsLegal w.first) (AtHome honest history failures w.first) durable_in common_in 1 m 2 w u y f) (goes_left 0 k a b None u t left));
+        goes = goes_on v w t (goes_entered (IsLegal v.first) (AtHome g v.first) durable_in common_in 0 n 2 v w x e)
+            (goes_on w u t (goes_entered (IsLegal w.first) (AtHome g w.first) durable_in common_in 1 m 2 w u y f) (goes_left 0 k a b None u t left));
         own = ap (λ (z : View (Home D) Judged). z.own) left ∙ (ap (λ (z : View (Home D) Judged). z.own) f.view ∙ ap (λ (z : View (Home D) Judged). z.own) e.view);
         joined = ap (λ (z : View (Home D) Judged). z.joined) left ∙ (ap (λ (z : View (Home D) Judged). z.joined) f.view ∙ ap (λ (z : View (Home D) Judged). z.joined) e.view);
         kept = ap (λ (z : View (Home D) Judged). z.given_up) left ∙ (ap (λ (z : View (Home D) Judged). z.given_up) f.view ∙ ap (λ (z : View (Home D) Judged). z.given_up) e.view);
@@ -109,9 +109,9 @@ module _ {D : Type 0} (honest : D → Type 0) (history : D → History) (failure
 
       -- ---- what the engine is behind the check
 
-      module _ (new : Engine D) (taken : (s : Start D) (front more : List Judged) → MayLend honest history failures s front more c.current d.engine → HasTaken honest history failures s.desk.engine s.certifier.current front new)
+      module _ (new : Engine D) (taken : (s : Start D) (front more : List Judged) → MayLend g s front more c.current d.engine → HasTaken g s.desk.engine s.certifier.current front new)
           (log : new.log ≡ d.engine.log) (rises : d.engine.checkpoint.base.position ≤ new.checkpoint.base.position) where
-        desk_as : (given : ℕ) (s : Start D) (first : v.first ≡ values_of s) → (given ≡ 0 → d.engine.halted ≡ None → new.halted ≡ None) → DeskAt honest history failures s given t.seen (record { engine = new; publisher = d.publisher; waiting = d.waiting })
+        desk_as : (given : ℕ) (s : Start D) (first : v.first ≡ values_of s) → (given ≡ 0 → d.engine.halted ≡ None → new.halted ≡ None) → DeskAt g s given t.seen (record { engine = new; publisher = d.publisher; waiting = d.waiting })
         desk_as given s first works =
             let here = desk_at s first in
             record {
@@ -126,7 +126,7 @@ module _ {D : Type 0} (honest : D → Type 0) (history : D → History) (failure
             }
 
         -- to be given up, or to go on: it works still where nothing was refused, and is the same where it was not due
-        pub at_desk : (given : ℕ) → (given ≡ 0 → d.engine.halted ≡ None → new.halted ≡ None) → AtDesk honest history failures given v t (record { engine = new; publisher = d.publisher; waiting = d.waiting })
+        pub at_desk : (given : ℕ) → (given ≡ 0 → d.engine.halted ≡ None → new.halted ≡ None) → AtDesk g given v t (record { engine = new; publisher = d.publisher; waiting = d.waiting })
         at_desk given works = record {
           number = m;
           floor = durable_of d.engine.log;
@@ -138,5 +138,5 @@ module _ {D : Type 0} (honest : D → Type 0) (history : D → History) (failure
             same_common : durable_of d.engine.log + length d.engine.block ≡ durable_of new.log + length new.block
             same_common =
                 let here = desk_at seat.start seat.first in
-                let now : HasTaken honest history failures seat.start.desk.engine seat.start.certifier.current here.front new = taken seat.start here.front here.begins.0 (may_lend seat.start seat.first) in
+                let now : HasTaken g seat.start.desk.engine seat.start.certifier.current here.front new = taken seat.start here.front here.begins.0 (may_lend seat.start seat.first) in
                 let before = here.taken.count in let after = now.count in omega (arith, before, after)

@@ -8,7 +8,7 @@ use Rattle.rep_types.specs.declared.refusal.Refusal.TheVariants.{TooOld, NotYet,
 use Rattle.rep_types.specs.Order.{rows}
 use Rattle.rep_types.specs.ByItems.{HistoryByItems}
 use Rattle.rep_versions.specs.Following.{VersionsFollowTheItems}
-use Rattle.rep_disk.specs.History.{History}
+use Rattle.rep_disk.specs.declared.disk.Disk.{Ghosts}
 use Rattle.rep_stations.specs.Judging.{start_of}
 use Rattle.rep_stations.specs.Orders.{HistoriesExtendTheOrder}
 use Rattle.rep_snap.specs.declared.peek.Peek.{Peek}
@@ -60,31 +60,31 @@ module _ (shut : Watching Origin → Type 0) (r q : Watching Origin) (key : Key)
   looked_so said (inl bad) = absurd (let never : Ok said ≡ Err BadKey = bad.0 in cc)
   looked_so said (inr looked) = elim looked [ inl closed ↦ absurd (let never : Ok said ≡ Err Closed = closed.0 in cc) | inr seen ↦ seen ]
 
-module _ {D : Type 0} (honest : D → Type 0) (history : D → History) (failures : D → ℕ) (v w : View (Home D) Judged) (shut : Watching Origin → Type 0) (r q : Watching Origin) (key : Key) (at : ℕ) where
+module _ {D : Type 0} (g : Ghosts D) (v w : View (Home D) Judged) (shut : Watching Origin → Type 0) (r q : Watching Origin) (key : Key) (at : ℕ) where
   -- what a read comes to
-  pub reads_so : (peek : Result Peek Refusal) (answer : Result (Option (List ℕ)) Refusal) → Peeked shut r key at q peek → Answers honest history failures v w key at peek answer → Reads honest history failures v w key at shut r q answer
-  reads_so peek answer (inl bad) h = let told = subst (λ (z : Result Peek Refusal). Answers honest history failures v w key at z answer) bad.0 h in inl (told.0, bad.1, told.1)
+  pub reads_so : (peek : Result Peek Refusal) (answer : Result (Option (List ℕ)) Refusal) → Peeked shut r key at q peek → Answers g v w key at peek answer → Reads g v w key at shut r q answer
+  reads_so peek answer (inl bad) h = let told = subst (λ (z : Result Peek Refusal). Answers g v w key at z answer) bad.0 h in inl (told.0, bad.1, told.1)
   reads_so peek answer (inr looked) h = inr (peek, looked, h)
 
   -- what it says where the engine refuses
-  asked_refuses : (e : Refusal) → RefusesAsked honest history failures v w key at e → Refuses honest history failures v w key at shut r q e
+  asked_refuses : (e : Refusal) → RefusesAsked g v w key at e → Refuses g v w key at shut r q e
   asked_refuses BadKey h = absurd h
   asked_refuses Closed h = absurd h
   asked_refuses (NotYet durable) h = (h.0, inr h.1)
   asked_refuses e h = h
 
-  pub refuses_as_asked : (answer : Result (Option (List ℕ)) Refusal) → IfErr answer (RefusesAsked honest history failures v w key at) → IfErr answer (Refuses honest history failures v w key at shut r q)
+  pub refuses_as_asked : (answer : Result (Option (List ℕ)) Refusal) → IfErr answer (RefusesAsked g v w key at) → IfErr answer (Refuses g v w key at shut r q)
   refuses_as_asked (Ok x) h = tt
   refuses_as_asked (Err e) h = asked_refuses e h
 
-module _ {D : Type 0} (honest : D → Type 0) (history : D → History) (failures : D → ℕ) (v : View (Home D) Judged) (seat : IsSeat honest history failures v) (r : Watching Origin) (own : IsReaderOf v r) where
+module _ {D : Type 0} (g : Ghosts D) (v : View (Home D) Judged) (seat : IsSeat g v) (r : Watching Origin) (own : IsReaderOf v r) where
   -- the certifier that the reader's lists go on from
   pub origin_of : (s : Start D) → v.first ≡ values_of s → r.basis.certifier.log ≡ s.certifier ∷ []
-  origin_of s first = ap (λ (o : Origin). o.certifier.log) (own s first).1 ∙ (of_the_start (Begins honest history failures) v.first seat.start seat.first seat.begins s first).origin
+  origin_of s first = ap (λ (o : Origin). o.certifier.log) (own s first).1 ∙ (of_the_start (Begins g) v.first seat.start seat.first seat.begins s first).origin
 
-  module _ (folds : PeeksFollowTheFold) (versions : VersionsFollowTheItems) (by_items : HistoryByItems) (extend : HistoriesExtendTheOrder honest history failures) (w : View (Home D) Judged) (shut : Watching Origin → Type 0) (q : Watching Origin) (key : Key) (at : ℕ) where
+  module _ (folds : PeeksFollowTheFold) (versions : VersionsFollowTheItems) (by_items : HistoryByItems) (extend : HistoriesExtendTheOrder g) (w : View (Home D) Judged) (shut : Watching Origin → Type 0) (q : Watching Origin) (key : Key) (at : ℕ) where
     -- what it says of a row is the row of what it saw
-    pub row_shown : (said : Peek) → Peeked shut r key at q (Ok said) → (x : Option (List ℕ)) → ((below : Option (List ℕ)) → x ≡ row_over below said) → (s : Start D) → v.first ≡ values_of s → IsRowOf honest history failures s w q key at x
+    pub row_shown : (said : Peek) → Peeked shut r key at q (Ok said) → (x : Option (List ℕ)) → ((below : Option (List ℕ)) → x ≡ row_over below said) → (s : Start D) → v.first ≡ values_of s → IsRowOf g s w q key at x
     row_shown said peeked x says s first =
         let c = s.certifier.current in
         let oldest = oldest_of q.start q.seen in
@@ -105,7 +105,7 @@ module _ {D : Type 0} (honest : D → Type 0) (history : D → History) (failure
               says (rows_at (rows c.setting L) (published q.seen) oldest key)
               ∙ sym (folds.row (rows c.setting L) q.start oldest at (published q.seen) key said looked.0.ascends low looked.1.1)
               ∙ ap (λ pairs. rows_at (rows c.setting L) pairs at key) are.are
-              ∙ folded versions by_items honest history failures extend L n s.desk.engine c of starts are.items key at are.legal (omega (arith, low, since, start));
+              ∙ folded versions by_items g extend L n s.desk.engine c of starts are.items key at are.legal (omega (arith, low, since, start));
         }
 
 -- ---- the seat

@@ -9,7 +9,7 @@ use Rattle.rep_types.specs.declared.refusal.Refusal.{Refusal}
 use Rattle.rep_types.specs.declared.refusal.Refusal.TheVariants.{Exhausted, OutOfMemory, Stopped}
 use Rattle.rep_types.specs.declared.limits.TheConstants.{MAX_SEQNO}
 use Rattle.rep_types.specs.Order.{Order, items_of as items_in}
-use Rattle.rep_disk.specs.History.{History}
+use Rattle.rep_disk.specs.declared.disk.Disk.{Ghosts}
 use Rattle.rep_cert.specs.Holdings.{Holdings}
 use Rattle.rep_engine.specs.Engines.{Engine, durable_of, facts_of}
 use Rattle.rep_steps.specs.Nodes.{Node}
@@ -158,12 +158,12 @@ module _ {D : Type 0} where
   pub has_all : (v w : View (Home D) Judged) → v.own ≡ [] → v.allowance ≡ v.whole → Went v w → HasAll w
   has_all v w own all went = let none : length v.own ≡ 0 = ap (λ (l : List ℕ). length l) own in let kept = went.goes.kept in let whole = went.goes.whole in omega arith
 
-module _ {D : Type 0} (honest : D → Type 0) (history : D → History) (failures : D → ℕ) where
+module _ {D : Type 0} (g : Ghosts D) where
   -- ---- what it came to
 
-  pub served : HistoriesExtendTheOrder honest history failures → (old new : Replica D) (items : List Item) (v w : View (Home D) Judged) (watch : List (Watching Origin)) (receipts : List Receipt) (end : Option Refusal)
-      → v.start ≡ durable_of old.engine.log + 1 → v.own ≡ [] → StartsFrom honest history failures old v watch → Went v w → IsBatch items 0 (length items) v w receipts → Ascends receipts → (end ≡ None → IsWhole 0 (length items) v w receipts)
-      → SeatEnded w.halted v.allowance (length items) v.own w.own receipts end → EndsAs honest history failures w new → IsServed honest history failures old items new receipts end
+  pub served : HistoriesExtendTheOrder g → (old new : Replica D) (items : List Item) (v w : View (Home D) Judged) (watch : List (Watching Origin)) (receipts : List Receipt) (end : Option Refusal)
+      → v.start ≡ durable_of old.engine.log + 1 → v.own ≡ [] → StartsFrom g old v watch → Went v w → IsBatch items 0 (length items) v w receipts → Ascends receipts → (end ≡ None → IsWhole 0 (length items) v w receipts)
+      → SeatEnded w.halted v.allowance (length items) v.own w.own receipts end → EndsAs g w new → IsServed g old items new receipts end
   served extend old new items v w watch receipts end starts own s went batch up whole ended e = record {
     judged = w.seen;
     legal = legal;
@@ -195,12 +195,12 @@ module _ {D : Type 0} (honest : D → Type 0) (history : D → History) (failure
       legal : Legal old.certifier.current w.seen
       legal = subst (λ (c : Holdings). Legal c.current w.seen) certifier e.ends.legal
 
-      starts_as : (n : Node) → Holds honest history failures n old → StartsAs honest history failures e.start.desk.engine e.start.certifier.current n
-      starts_as n holds = subst (λ (z : Engine D × Holdings). StartsAs honest history failures z.0 z.1.current n) (λ i. (sym engine i, sym certifier i)) (s.stands n holds)
+      starts_as : (n : Node) → Holds g n old → StartsAs g e.start.desk.engine e.start.certifier.current n
+      starts_as n holds = subst (λ (z : Engine D × Holdings). StartsAs g z.0 z.1.current n) (λ i. (sym engine i, sym certifier i)) (s.stands n holds)
 
   -- a replica that is handed back as it was
-  same_served : HistoriesLieBetweenReplicas honest history failures → HistoriesExtendTheOrder honest history failures → (old : Replica D) (items : List Item) (refusal : Refusal) → IsReplica (facts_of failures old.engine) old.backlog old.certifier.current old.stopped → IsRunning old → is_quiet (replica_facts failures old) ≡ true
-      → IsServed honest history failures old items old [] (Some refusal)
+  same_served : HistoriesLieBetweenReplicas g → HistoriesExtendTheOrder g → (old : Replica D) (items : List Item) (refusal : Refusal) → IsReplica (facts_of g old.engine) old.backlog old.certifier.current old.stopped → IsRunning old → is_quiet (replica_facts g old) ≡ true
+      → IsServed g old items old [] (Some refusal)
   same_served between extend old items refusal is running quiet = let b = between.begins old is running.inside quiet in record {
     judged = [];
     legal = tt;
@@ -217,7 +217,7 @@ module _ {D : Type 0} (honest : D → Type 0) (history : D → History) (failure
     images = λ L n of holds image left. extend.images L n old.engine old.engine old.certifier.current [] of (b.stands n holds) tt b.taken image left;
   }
 
-  pub refused_served : HistoriesLieBetweenReplicas honest history failures → HistoriesExtendTheOrder honest history failures → (old new : Replica D) (items : List Item) (receipts : List Receipt) (end : Option Refusal) (refusal : Refusal)
-      → IsReplica (facts_of failures old.engine) old.backlog old.certifier.current old.stopped → IsRunning old → is_quiet (replica_facts failures old) ≡ true → new ≡ old → receipts ≡ [] → end ≡ Some refusal → IsServed honest history failures old items new receipts end
+  pub refused_served : HistoriesLieBetweenReplicas g → HistoriesExtendTheOrder g → (old new : Replica D) (items : List Item) (receipts : List Receipt) (end : Option Refusal) (refusal : Refusal)
+      → IsReplica (facts_of g old.engine) old.backlog old.certifier.current old.stopped → IsRunning old → is_quiet (replica_facts g old) ≡ true → new ≡ old → receipts ≡ [] → end ≡ Some refusal → IsServed g old items new receipts end
   refused_served between extend old new items receipts end refusal is running quiet same none ended =
-      subst (λ (z : Replica D × List Receipt × Option Refusal). IsServed honest history failures old items z.0 z.1 z.2) (λ i. (sym same i, sym none i, sym ended i)) (same_served between extend old items refusal is running quiet)
+      subst (λ (z : Replica D × List Receipt × Option Refusal). IsServed g old items z.0 z.1 z.2) (λ i. (sym same i, sym none i, sym ended i)) (same_served between extend old items refusal is running quiet)

@@ -13,7 +13,7 @@ use Rattle.rep_types.specs.Settings.{Setting}
 use Rattle.rep_types.specs.Order.{Order, State, content_after, counts, items_of, history, read, rows}
 use Rattle.rep_types.specs.ByItems.{HistoryByItems, ReadsByItems}
 use Rattle.rep_versions.specs.Following.{VersionsFollowTheItems, rows_after, effect_of as written_of}
-use Rattle.rep_disk.specs.History.{History}
+use Rattle.rep_disk.specs.declared.disk.Disk.{Ghosts}
 use Rattle.rep_cert.specs.Holdings.{Holding}
 use Rattle.rep_steps.specs.Nodes.{Node, advanced}
 use Rattle.rep_steps.specs.Images.{AreJudgedFrom}
@@ -103,7 +103,7 @@ module _ (versions : VersionsFollowTheItems) where
       ∙ ap (λ (js : List Judged). rows_after (rows p (take (length L) M)) (take (at - length L) (map written_of js)) key) are
       ∙ versions.order p M (length L) at key low
 
-  module _ (by_items : HistoryByItems) {D : Type 0} (honest : D → Type 0) (hist : D → History) (failures : D → ℕ) (extend : HistoriesExtendTheOrder honest hist failures) (L : Order) (n : Node) (first : Engine D) (c : Holding) (of : IsOf L n) (starts : StartsAs honest hist failures first c n) where
+  module _ (by_items : HistoryByItems) {D : Type 0} (g : Ghosts D) (extend : HistoriesExtendTheOrder g) (L : Order) (n : Node) (first : Engine D) (c : Holding) (of : IsOf L n) (starts : StartsAs g first c n) where
     -- the order has as many items as the certifier had come to
     pub as_long : length L ≡ c.delivered
     as_long = let within = of.within in let count = starts.count in

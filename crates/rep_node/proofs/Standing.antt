@@ -1,7 +1,7 @@
 -- What lies at home, as the certifier, the queue and the engine move on.
 use Rattle.std.proofs.Common.{◌≡◌, ℕ, ◌+◌, ◌≤◌, List, [], ◌∷◌, ◌++◌, length, sym, refl, ap, ◌∙◌, subst, arith, length-append}
 use Rattle.rep_types.specs.declared.judged.Judged.{Judged}
-use Rattle.rep_disk.specs.History.{History}
+use Rattle.rep_disk.specs.declared.disk.Disk.{Ghosts}
 use Rattle.rep_cert.specs.Holdings.{Holding, Holdings}
 use Rattle.rep_stations.specs.Judging.{HasJudged}
 use Rattle.rep_stations.specs.Waiting.{HistoriesGoOn}
@@ -54,30 +54,30 @@ one_start first s t p q = let same = sym p ∙ q in λ i. record { certifier = a
 pub of_the_start : {D : Type 0} (P : Start D → Type 0) (first : List (Home D)) (s : Start D) → first ≡ values_of s → P s → (t : Start D) → first ≡ values_of t → P t
 of_the_start P first s is p t also = subst P (one_start first s t is also) p
 
-module _ {D : Type 0} (honest : D → Type 0) (history : D → History) (failures : D → ℕ) where
+module _ {D : Type 0} (g : Ghosts D) where
   -- ---- what is found at home
 
   -- what it is that is found, where it is of this kind
-  pub at_first : (first : List (Home D)) (number given durable : ℕ) (items : List Judged) (x : Home D) (c : Holdings) → AtHome honest history failures first 0 number given items durable x → x ≡ AtFirst c → (s : Start D) → first ≡ values_of s → CertifierAt s number items durable c.current
-  at_first first number given durable items x c h is s same = (subst (AtHome honest history failures first 0 number given items durable) is h).1 s same
+  pub at_first : (first : List (Home D)) (number given durable : ℕ) (items : List Judged) (x : Home D) (c : Holdings) → AtHome g first 0 number given items durable x → x ≡ AtFirst c → (s : Start D) → first ≡ values_of s → CertifierAt s number items durable c.current
+  at_first first number given durable items x c h is s same = (subst (AtHome g first 0 number given items durable) is h).1 s same
 
-  pub at_second : (first : List (Home D)) (number given durable : ℕ) (items : List Judged) (x : Home D) (d : Desk D) → AtHome honest history failures first 1 number given items durable x → x ≡ AtSecond d → (s : Start D) → first ≡ values_of s → DeskAt honest history failures s given items d
-  at_second first number given durable items x d h is s same = (subst (AtHome honest history failures first 1 number given items durable) is h).1 s same
+  pub at_second : (first : List (Home D)) (number given durable : ℕ) (items : List Judged) (x : Home D) (d : Desk D) → AtHome g first 1 number given items durable x → x ≡ AtSecond d → (s : Start D) → first ≡ values_of s → DeskAt g s given items d
+  at_second first number given durable items x d h is s same = (subst (AtHome g first 1 number given items durable) is h).1 s same
 
-  pub at_third : (first : List (Home D)) (number given durable : ℕ) (items : List Judged) (x : Home D) (q : Queue) → AtHome honest history failures first 2 number given items durable x → x ≡ AtThird q → (s : Start D) → first ≡ values_of s → QueueAt s number items q
-  at_third first number given durable items x q h is s same = (subst (AtHome honest history failures first 2 number given items durable) is h).1 s same
+  pub at_third : (first : List (Home D)) (number given durable : ℕ) (items : List Judged) (x : Home D) (q : Queue) → AtHome g first 2 number given items durable x → x ≡ AtThird q → (s : Start D) → first ≡ values_of s → QueueAt s number items q
+  at_third first number given durable items x q h is s same = (subst (AtHome g first 2 number given items durable) is h).1 s same
 
-  pub certifier_found : (first : List (Home D)) (number given durable : ℕ) (items : List Judged) (x : Home D) → AtHome honest history failures first 0 number given items durable x → (c : Holdings) × (x ≡ AtFirst c)
+  pub certifier_found : (first : List (Home D)) (number given durable : ℕ) (items : List Judged) (x : Home D) → AtHome g first 0 number given items durable x → (c : Holdings) × (x ≡ AtFirst c)
   certifier_found first number given durable items (AtFirst c) h = (c, refl)
   certifier_found first number given durable items (AtSecond d) h = absurd (let e = h.0 in omega arith)
   certifier_found first number given durable items (AtThird q) h = absurd (let e = h.0 in omega arith)
 
-  pub desk_found : (first : List (Home D)) (number given durable : ℕ) (items : List Judged) (x : Home D) → AtHome honest history failures first 1 number given items durable x → (d : Desk D) × (x ≡ AtSecond d)
+  pub desk_found : (first : List (Home D)) (number given durable : ℕ) (items : List Judged) (x : Home D) → AtHome g first 1 number given items durable x → (d : Desk D) × (x ≡ AtSecond d)
   desk_found first number given durable items (AtFirst c) h = absurd (let e = h.0 in omega arith)
   desk_found first number given durable items (AtSecond d) h = (d, refl)
   desk_found first number given durable items (AtThird q) h = absurd (let e = h.0 in omega arith)
 
-  pub queue_found : (first : List (Home D)) (number given durable : ℕ) (items : List Judged) (x : Home D) → AtHome honest history failures first 2 number given items durable x → (q : Queue) × (x ≡ AtThird q)
+  pub queue_found : (first : List (Home D)) (number given durable : ℕ) (items : List Judged) (x : Home D) → AtHome g first 2 number given items durable x → (q : Queue) × (x ≡ AtThird q)
   queue_found first number given durable items (AtFirst c) h = absurd (let e = h.0 in omega arith)
   queue_found first number given durable items (AtSecond d) h = absurd (let e = h.0 in omega arith)
   queue_found first number given durable items (AtThird q) h = (q, refl)

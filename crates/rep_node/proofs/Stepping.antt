@@ -6,7 +6,7 @@ use Rattle.rep_types.specs.declared.reply.Reply.{Reply}
 use Rattle.rep_types.specs.declared.refusal.Refusal.{Refusal}
 use Rattle.rep_types.specs.declared.refusal.Part.TheVariants.{Pages}
 use Rattle.rep_types.specs.declared.refusal.Refusal.TheVariants.{Corrupt, DiskFault, LogFull, OutOfMemory, Stopped}
-use Rattle.rep_disk.specs.History.{History}
+use Rattle.rep_disk.specs.declared.disk.Disk.{Ghosts}
 use Rattle.rep_log.specs.declared.phase.Phase.{Phase}
 use Rattle.rep_cert.specs.Holdings.{Holding}
 use Rattle.rep_steps.specs.declared.event.Event.{Event}
@@ -124,27 +124,27 @@ running : (o : Option Phase) → is_some o ≡ false → o ≡ None
 running None e = refl
 running (Some p) e = absurd (let never : true ≡ false = e in cc)
 
-module _ {D : Type 0} (honest : D → Type 0) (history : D → History) (failures : D → ℕ) where
+module _ {D : Type 0} (g : Ghosts D) where
   -- the base does not fall
-  pub base_rises : (old new : Engine D) (e : Event) (a : Answer) → IsOfAnEngine e → IsAnEngine old → Moves (facts_of failures old) e a (facts_of failures new) → old.checkpoint.base.position ≤ new.checkpoint.base.position
-  base_rises old new e a own is moves = (moves_rise (facts_of failures old) (facts_of failures new) e a own is.goal moves).base
+  pub base_rises : (old new : Engine D) (e : Event) (a : Answer) → IsOfAnEngine e → IsAnEngine old → Moves (facts_of g old) e a (facts_of g new) → old.checkpoint.base.position ≤ new.checkpoint.base.position
+  base_rises old new e a own is moves = (moves_rise (facts_of g old) (facts_of g new) e a own is.goal moves).base
 
   -- What the log's step leaves: the engine has what it had taken, no less of it is durable, its base is no lower, and it works still where
   -- nothing is refused; and it has changed nothing that is refused by anything but the device.
   pub record Goes (old new : Engine D) (done : Result (Unit {0}) Refusal) : Type 0 where
-    pub taken : (first : Engine D) (c : Holding) (items : List Judged) → HasTaken honest history failures first c items old → HasTaken honest history failures first c items new
+    pub taken : (first : Engine D) (c : Holding) (items : List Judged) → HasTaken g first c items old → HasTaken g first c items new
     pub rises : durable_of old.log ≤ durable_of new.log
     pub base : old.checkpoint.base.position ≤ new.checkpoint.base.position
     pub works : OnOk done (old.halted ≡ None → new.halted ≡ None)
     pub same : IfErr done (λ e. (e ≡ DiskFault) ⊎ (new ≡ old))
-    pub full : done ≡ Err LogFull → IsFull failures old
+    pub full : done ≡ Err LogFull → IsFull g old
 
-  pub runs_on : (old new : Engine D) (a : Answer) → Rises (facts_of failures old) (facts_of failures new) a → is_refusal a ≡ false → old.halted ≡ None → new.halted ≡ None
+  pub runs_on : (old new : Engine D) (a : Answer) → Rises (facts_of g old) (facts_of g new) a → is_refusal a ≡ false → old.halted ≡ None → new.halted ≡ None
   runs_on old new a h told works = running new.halted (h.stopped told ∙ ap is_some works)
 
-  pub goes_logged : TakenItemsStay honest history failures → (old new : Engine D) (done : Result (Unit {0}) Refusal) → IsAnEngine old → Moves (facts_of failures old) Log (wrote done) (facts_of failures new)
-      → ((n : Node) → Holds honest history failures n old → (m : Node) × Steps n Log (wrote done) m × Holds honest history failures m new) → IfErr done (λ e. (e ≡ DiskFault) ⊎ (new ≡ old)) → Goes old new done
-  goes_logged laws old new (Ok u) is moves steps same = let h = moves_rise (facts_of failures old) (facts_of failures new) Log Wrote tt is.goal moves in record {
+  pub goes_logged : TakenItemsStay g → (old new : Engine D) (done : Result (Unit {0}) Refusal) → IsAnEngine old → Moves (facts_of g old) Log (wrote done) (facts_of g new)
+      → ((n : Node) → Holds g n old → (m : Node) × Steps n Log (wrote done) m × Holds g m new) → IfErr done (λ e. (e ≡ DiskFault) ⊎ (new ≡ old)) → Goes old new done
+  goes_logged laws old new (Ok u) is moves steps same = let h = moves_rise (facts_of g old) (facts_of g new) Log Wrote tt is.goal moves in record {
     taken = laws.step old new Log Wrote tt is moves steps;
     rises = h.durable;
     base = h.base;
@@ -152,20 +152,20 @@ module _ {D : Type 0} (honest : D → Type 0) (history : D → History) (failure
     same = same;
     full = λ told. absurd (never_told u told);
   }
-  goes_logged laws old new (Err r) is moves steps same = let h = moves_rise (facts_of failures old) (facts_of failures new) Log (Refused r) tt is.goal moves in record {
+  goes_logged laws old new (Err r) is moves steps same = let h = moves_rise (facts_of g old) (facts_of g new) Log (Refused r) tt is.goal moves in record {
     taken = laws.step old new Log (Refused r) tt is moves steps;
     rises = h.durable;
     base = h.base;
     works = tt;
     same = same;
-    full = λ told. full_so (facts_of failures old) (facts_of failures new) (subst (λ (e : Refusal). Moves (facts_of failures old) Log (Refused e) (facts_of failures new)) (same_err r LogFull told) moves);
+    full = λ told. full_so (facts_of g old) (facts_of g new) (subst (λ (e : Refusal). Moves (facts_of g old) Log (Refused e) (facts_of g new)) (same_err r LogFull told) moves);
   }
 
   -- the same of a sync, whose replies are let go
-  pub goes_synced : TakenItemsStay honest history failures → (old new : Engine D) (told : Result (List Reply) Refusal) (done : Result (Unit {0}) Refusal) (P : List Reply → Type 0) → is_ok done ≡ is_ok told → MatchResult told P (λ e. done ≡ Err e) → IsAnEngine old
-      → Moves (facts_of failures old) Sync (synced told) (facts_of failures new) → ((n : Node) → Holds honest history failures n old → (m : Node) × Steps n Sync (synced told) m × Holds honest history failures m new)
+  pub goes_synced : TakenItemsStay g → (old new : Engine D) (told : Result (List Reply) Refusal) (done : Result (Unit {0}) Refusal) (P : List Reply → Type 0) → is_ok done ≡ is_ok told → MatchResult told P (λ e. done ≡ Err e) → IsAnEngine old
+      → Moves (facts_of g old) Sync (synced told) (facts_of g new) → ((n : Node) → Holds g n old → (m : Node) × Steps n Sync (synced told) m × Holds g m new)
       → IfErr told (λ e. (e ≡ DiskFault) ⊎ (new ≡ old)) → Goes old new done
-  goes_synced laws old new (Ok rs) (Ok u) P ok err is moves steps same = let h = moves_rise (facts_of failures old) (facts_of failures new) Sync (Synced rs) tt is.goal moves in record {
+  goes_synced laws old new (Ok rs) (Ok u) P ok err is moves steps same = let h = moves_rise (facts_of g old) (facts_of g new) Sync (Synced rs) tt is.goal moves in record {
     taken = laws.step old new Sync (Synced rs) tt is moves steps;
     rises = h.durable;
     base = h.base;
@@ -175,13 +175,13 @@ module _ {D : Type 0} (honest : D → Type 0) (history : D → History) (failure
   }
   goes_synced laws old new (Ok rs) (Err r) P ok err is moves steps same = absurd (let e : false ≡ true = ok in cc)
   goes_synced laws old new (Err r) (Ok u) P ok err is moves steps same = absurd (let e : true ≡ false = ok in cc)
-  goes_synced laws old new (Err r) (Err e) P ok err is moves steps same = let h = moves_rise (facts_of failures old) (facts_of failures new) Sync (Refused r) tt is.goal moves in record {
+  goes_synced laws old new (Err r) (Err e) P ok err is moves steps same = let h = moves_rise (facts_of g old) (facts_of g new) Sync (Refused r) tt is.goal moves in record {
     taken = laws.step old new Sync (Refused r) tt is moves steps;
     rises = h.durable;
     base = h.base;
     works = tt;
     same = subst (λ (d : Result (Unit {0}) Refusal). IfErr d (λ e. (e ≡ DiskFault) ⊎ (new ≡ old))) (sym err) same;
-    full = λ told. absurd (never_full (facts_of failures old) (facts_of failures new) (subst (λ (x : Refusal). Moves (facts_of failures old) Sync (Refused x) (facts_of failures new)) (same_err r LogFull (sym err ∙ told)) moves));
+    full = λ told. absurd (never_full (facts_of g old) (facts_of g new) (subst (λ (x : Refusal). Moves (facts_of g old) Sync (Refused x) (facts_of g new)) (same_err r LogFull (sym err ∙ told)) moves));
   }
 
   -- ---- the same with an answer that says nothing of a step that was not due
@@ -194,6 +194,6 @@ module _ {D : Type 0} (honest : D → Type 0) (history : D → History) (failure
   goes_working old new (Ok u) h works = h.works works
   goes_working old new (Err r) h works = tt
 
-  pub goes_full : (old new : Engine D) (done : Result (Unit {0}) Refusal) → Goes old new done → IfErr done (λ r. r ≡ LogFull → (new ≡ old) × IsFull failures old)
+  pub goes_full : (old new : Engine D) (done : Result (Unit {0}) Refusal) → Goes old new done → IfErr done (λ r. r ≡ LogFull → (new ≡ old) × IsFull g old)
   goes_full old new (Ok u) h = tt
   goes_full old new (Err r) h = λ full. (not_the_device old new r (λ fault. let e : LogFull ≡ DiskFault = sym full ∙ fault in absurd cc) h.same, h.full (ap (λ (x : Refusal). Err x) full))

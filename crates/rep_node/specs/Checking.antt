@@ -2,7 +2,7 @@
 use Rattle.std.specs.Prelude.{◌≡◌, ℕ, ◌+◌, ◌≤◌, max, List, ◌++◌, take, Option, None, Some}
 use Rattle.rep_types.specs.declared.judged.Judged.{Judged}
 use Rattle.rep_types.specs.declared.limits.TheConstants.{MAX_AHEAD}
-use Rattle.rep_disk.specs.History.{History}
+use Rattle.rep_disk.specs.declared.disk.Disk.{Ghosts}
 use Rattle.rep_cert.specs.Holdings.{Holding}
 use Rattle.rep_engine.specs.Engines.{Engine, durable_of}
 use Rattle.rep_stations.specs.Judging.{HasJudged}
@@ -21,11 +21,11 @@ use Rattle.rep_node.specs.Homes.{Start, Begins, DeskAt, IsLegalBehind, position_
 
 -- The certifier has judged what the engine has taken, and perhaps more, of one legal history, and is not too far ahead: so it holds the
 -- window that a checkpoint asks for.
-pub record MayLend {D : Type 0} (honest : D → Type 0) (history : D → History) (failures : D → ℕ) (s : Start D) (taken more : List Judged) (h : Holding) (e : Engine D) : Type 0 where
-  pub begins : Begins honest history failures s
+pub record MayLend {D : Type 0} (g : Ghosts D) (s : Start D) (taken more : List Judged) (h : Holding) (e : Engine D) : Type 0 where
+  pub begins : Begins g s
   pub legal : IsLegalBehind s.certifier.current (taken ++ more)
   pub judged : HasJudged s.certifier.current (taken ++ more) h
-  pub engine : HasTaken honest history failures s.desk.engine s.certifier.current taken e
+  pub engine : HasTaken g s.desk.engine s.certifier.current taken e
   pub near : h.delivered ≤ durable_of e.log + MAX_AHEAD
 
 -- What is said of a desk, by the step that was due: where the base stands and what readers may be told where a checkpoint may begin, and so none
@@ -41,9 +41,9 @@ abbrev pub HasNoneDue : {D : Type 0} → Engine D → Type 0
 HasNoneDue e = e.checkpoint.stage ≡ Off → durable_of e.log ≤ e.checkpoint.base.position
 
 -- An engine was found at the desk that has none to begin.
-pub record FoundNoneDue {D : Type 0} (honest : D → Type 0) (history : D → History) (failures : D → ℕ) (s : Start D) (w : View (Home D) Judged) : Type 0 where
+pub record FoundNoneDue {D : Type 0} (g : Ghosts D) (s : Start D) (w : View (Home D) Judged) : Type 0 where
   pub desk : Desk D
-  pub here : DeskAt honest history failures s 0 w.seen desk
+  pub here : DeskAt g s 0 w.seen desk
   pub none : HasNoneDue desk.engine
 
 -- readers find no snapshot below the base, and each from there on

@@ -3,7 +3,8 @@ use Rattle.std.specs.Prelude.{◌≡◌, ℕ, ◌+◌, ◌≤◌, ◌++◌, fals
 use Rattle.uuid.specs.Parts.{is_nil_bytes}
 use Rattle.rep_types.specs.declared.judged.Judged.{Judged}
 use Rattle.rep_types.specs.Order.{Order, items_of}
-use Rattle.rep_disk.specs.History.{History, IsImage}
+use Rattle.rep_disk.specs.declared.disk.Disk.{Ghosts}
+use Rattle.rep_disk.specs.History.{IsImage}
 use Rattle.rep_cert.specs.Holdings.{Holdings}
 use Rattle.rep_engine.specs.Engines.{Engine, durable_of}
 use Rattle.rep_steps.specs.Nodes.{Node}
@@ -21,13 +22,13 @@ use Rattle.rep_node.specs.declared.home.Home.{Home}
 use Rattle.rep_node.specs.declared.origin.Origin.{Origin}
 use Rattle.rep_node.specs.Homes.{Start, Begins, values_of}
 
-module _ {D : Type 0} (honest : D → Type 0) (history : D → History) (failures : D → ℕ) where
+module _ {D : Type 0} (g : Ghosts D) where
   -- What a replica was taken apart into that has nothing left to do, runs, and belongs to a cluster.
   pub record IsTakenApart (r : Replica D) (certifier : Holdings) (backlog : List Judged) (engine : Engine D) : Type 0 where
     pub same_certifier : certifier ≡ r.certifier
     pub same_backlog : backlog ≡ r.backlog
     pub same_engine : engine ≡ r.engine
-    pub parts : PartsBegin honest history failures r
+    pub parts : PartsBegin g r
     pub works : r.engine.halted ≡ None
     pub defined : IsFalse (is_nil_bytes r.engine.checkpoint.base.uuid)
 
@@ -36,10 +37,10 @@ module _ {D : Type 0} (honest : D → Type 0) (history : D → History) (failure
   pub record StartsFrom (r : Replica D) (v : View (Home D) Judged) (watch : List (Watching Origin)) : Type 0 where
     pub start : Start D
     pub first : v.first ≡ values_of start
-    pub begins : Begins honest history failures start
+    pub begins : Begins g start
     pub certifier : start.certifier ≡ r.certifier
     pub engine : start.desk.engine ≡ r.engine
-    pub stands : (n : Node) → Holds honest history failures n r → StartsAs honest history failures r.engine r.certifier.current n
+    pub stands : (n : Node) → Holds g n r → StartsAs g r.engine r.certifier.current n
     pub readers : All (λ (reader : Watching Origin). reader ≡ watching start.desk.publisher) watch
 
   -- They are what some such replica was taken apart into,
@@ -59,7 +60,7 @@ module _ {D : Type 0} (honest : D → Type 0) (history : D → History) (failure
     pub one : (s : Start D) → v.first ≡ values_of s → s ≡ start
     pub taken : List Judged
     pub waits : List Judged
-    pub ends : Ends honest history failures start.desk.engine start.certifier.current v.seen taken waits r
+    pub ends : Ends g start.desk.engine start.certifier.current v.seen taken waits r
     pub durable : v.durable ≤ durable_of r.engine.log
     pub numbers : (x : ℕ) → times x v.own + once_below x v.start ≡ once_below x (v.start + length v.own)
     pub drawn : length v.seen ≤ length v.own
@@ -68,6 +69,6 @@ module _ {D : Type 0} (honest : D → Type 0) (history : D → History) (failure
     -- Where the first parts stood for a node of an order: unless it was stopped, the replica stands for a node of that order with the
     -- history's items at its end; and stopped or not, each image that the device leaves stands for a front of that order with the items that
     -- the engine has taken, with all that is durable.
-    pub stands : (L : Order) (n : Node) → IsOf L n → StartsAs honest history failures start.desk.engine start.certifier.current n → r.stopped ≡ false → (m : Node) × IsOf (L ++ items_of v.seen) m × Holds honest history failures m r
-    pub images : (L : Order) (n : Node) → IsOf L n → StartsAs honest history failures start.desk.engine start.certifier.current n → (image : List ℕ) → IsImage (history r.engine.disk) image
+    pub stands : (L : Order) (n : Node) → IsOf L n → StartsAs g start.desk.engine start.certifier.current n → r.stopped ≡ false → (m : Node) × IsOf (L ++ items_of v.seen) m × Holds g m r
+    pub images : (L : Order) (n : Node) → IsOf L n → StartsAs g start.desk.engine start.certifier.current n → (image : List ℕ) → IsImage (g.history r.engine.disk) image
         → IsFrontOf Means start.desk.engine.checkpoint.base.uuid start.certifier.current.setting (L ++ items_of taken) (durable_of r.engine.log) image

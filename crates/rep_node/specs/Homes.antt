@@ -2,7 +2,7 @@
 use Rattle.std.specs.Prelude.{◌≡◌, ℕ, ◌+◌, ◌≤◌, max, IsFalse, None, List, [], ◌∷◌, ◌++◌, length}
 use Rattle.uuid.specs.Parts.{is_nil_bytes}
 use Rattle.rep_types.specs.declared.judged.Judged.{Judged}
-use Rattle.rep_disk.specs.History.{History}
+use Rattle.rep_disk.specs.declared.disk.Disk.{Ghosts}
 use Rattle.rep_cert.specs.Holdings.{Holding, Holdings}
 use Rattle.rep_engine.specs.Engines.{durable_of}
 use Rattle.rep_engine.specs.Checking.{HoldsWindows}
@@ -64,13 +64,13 @@ pub record IsPublished {D : Type 0} (s : Start D) (taken : List Judged) (d : Des
   pub durable : position_of s + length (published d.publisher.list) ≡ durable_of d.engine.log
   pub oldest : oldest_of d.publisher.start d.publisher.list ≤ max (position_of s) d.engine.checkpoint.base.position
 
-module _ {D : Type 0} (honest : D → Type 0) (history : D → History) (failures : D → ℕ) where
+module _ {D : Type 0} (g : Ghosts D) where
   -- The engine has taken a front of the history, and works; what is durable of it is published. One that was given up has taken such a
   -- front, and may have failed, or have published less. Given up or not, what is published is durable, and of what the engine has taken.
   pub record DeskAt (s : Start D) (given : ℕ) (items : List Judged) (d : Desk D) : Type 0 where
     pub front : List Judged
     pub begins : StartsWith items front
-    pub taken : HasTaken honest history failures s.desk.engine s.certifier.current front d.engine
+    pub taken : HasTaken g s.desk.engine s.certifier.current front d.engine
     pub publisher : (d.publisher.book ≡ s.desk.publisher.book) × (d.publisher.basis ≡ s.desk.publisher.basis) × (d.publisher.start ≡ s.desk.publisher.start)
     pub works : given ≡ 0 → d.engine.halted ≡ None
     pub ahead : position_of s + length (published d.publisher.list) ≤ durable_of d.engine.log
@@ -87,7 +87,7 @@ module _ {D : Type 0} (honest : D → Type 0) (history : D → History) (failure
   pub record Begins (s : Start D) : Type 0 where
     pub judged : HasJudged s.certifier.current [] s.certifier.current
     pub windows : HoldsWindows s.certifier.current
-    pub taken : HasTaken honest history failures s.desk.engine s.certifier.current [] s.desk.engine
+    pub taken : HasTaken g s.desk.engine s.certifier.current [] s.desk.engine
     pub at : position_of s ≡ durable_of s.desk.engine.log
     pub works : s.desk.engine.halted ≡ None
     pub defined : IsFalse (is_nil_bytes s.desk.engine.checkpoint.base.uuid)

@@ -5,7 +5,7 @@ use Rattle.rep_types.specs.declared.item.Item.{Item}
 use Rattle.rep_types.specs.declared.judged.Judged.{Judged}
 use Rattle.rep_types.specs.declared.refusal.Refusal.{Refusal}
 use Rattle.rep_types.specs.declared.refusal.Refusal.TheVariants.{Stopped}
-use Rattle.rep_disk.specs.History.{History}
+use Rattle.rep_disk.specs.declared.disk.Disk.{Ghosts}
 use Rattle.rep_ordered.specs.declared.view.Joined.{Joined}
 use Rattle.rep_ordered.specs.declared.view.View.{View}
 use Rattle.rep_ordered.specs.Counts.{times}
@@ -136,11 +136,11 @@ module _ {D : Type 0} where
     pub all : end ≡ None → IsAll from to drawn receipts
     pub stopped : IfSome end (λ (refusal : Refusal). (refusal ≡ Stopped) × (0 < w.halted))
 
-  module _ (honest : D → Type 0) (history : D → History) (failures : D → ℕ) where
+  module _ (g : Ghosts D) where
     -- A job that a worker can do.
     pub record IsReady (table : TableId) (count : ℕ) (j : Job D) : Type 0 where
       pub lock : j.seat.lock ≡ table
-      pub seat : IsSeat honest history failures j.seat.view
+      pub seat : IsSeat g j.seat.view
       pub free : j.seat.view.held ≡ []
       pub fresh : (j.seat.view.own ≡ []) × (j.seat.view.joined ≡ []) × (j.end ≡ None)
       pub range : (j.from < j.to) × (j.to ≤ count)

@@ -4,7 +4,7 @@ use Rattle.rep_types.specs.declared.judged.Judged.{Judged}
 use Rattle.rep_types.specs.declared.limits.TheConstants.{MAX_SEQNO}
 use Rattle.rep_types.specs.declared.refusal.Refusal.{Refusal}
 use Rattle.rep_types.specs.declared.refusal.Refusal.TheVariants.{LogFull}
-use Rattle.rep_disk.specs.History.{History}
+use Rattle.rep_disk.specs.declared.disk.Disk.{Ghosts}
 use Rattle.rep_engine.specs.Engines.{Engine, durable_of, facts_of}
 use Rattle.rep_steps.specs.declared.event.Event.TheVariants.{Log}
 use Rattle.rep_steps.specs.Standings.{refusal}
@@ -26,8 +26,8 @@ abbrev pub common_of_desk : {D : Type 0} → Desk D → ℕ
 common_of_desk d = durable_of d.engine.log + length d.engine.block
 
 -- Items wait to be written, and the log's next cell is still needed: so the engine refuses to write.
-abbrev pub IsFull : {D : Type 0} → (D → ℕ) → Engine D → Type 0
-IsFull failures e = refusal (facts_of failures e) Log ≡ Some LogFull
+abbrev pub IsFull : {D : Type 0} → Ghosts D → Engine D → Type 0
+IsFull g e = refusal (facts_of g e) Log ≡ Some LogFull
 
 -- The seat of this view went on to the engine, from the side, at this number of its turn, and holds nothing else; this was durable there, and
 -- engine and queue name this one.
@@ -40,20 +40,20 @@ pub record AtEngine {D : Type 0} (v u : View (Home D) Judged) (number floor comm
   pub held : u.held ≡ hold 1 (4 * number + 2) floor ∷ []
   pub common_is : u.common ≡ common
 
-module _ {D : Type 0} (honest : D → Type 0) (history : D → History) (failures : D → ℕ) where
+module _ {D : Type 0} (g : Ghosts D) where
   -- At the engine: it has taken a front of a history that is legal behind what the node was started with.
   pub record AtWork (s : Start D) (items : List Judged) (d : Desk D) : Type 0 where
-    pub begins : Begins honest history failures s
+    pub begins : Begins g s
     pub legal : IsLegalBehind s.certifier.current items
-    pub desk : DeskAt honest history failures s 0 items d
+    pub desk : DeskAt g s 0 items d
 
   -- The engine has taken a step: it works, but more may be durable than is published.
   pub record HasStepped (s : Start D) (items : List Judged) (d : Desk D) : Type 0 where
-    pub begins : Begins honest history failures s
+    pub begins : Begins g s
     pub legal : IsLegalBehind s.certifier.current items
     pub front : List Judged
     pub starts : StartsWith items front
-    pub taken : HasTaken honest history failures s.desk.engine s.certifier.current front d.engine
+    pub taken : HasTaken g s.desk.engine s.certifier.current front d.engine
     pub publisher : (d.publisher.book ≡ s.desk.publisher.book) × (d.publisher.basis ≡ s.desk.publisher.basis) × (d.publisher.start ≡ s.desk.publisher.start)
     pub works : d.engine.halted ≡ None
     pub waits : published d.publisher.list ++ d.waiting ≡ shown front
@@ -73,18 +73,18 @@ module _ {D : Type 0} (honest : D → Type 0) (history : D → History) (failure
     pub floor : ℕ
     pub at : AtEngine v u number floor (common_of_desk d)
     pub low : floor ≤ durable_of d.engine.log
-    pub desk : (s : Start D) → v.first ≡ values_of s → DeskAt honest history failures s given u.seen d
+    pub desk : (s : Start D) → v.first ≡ values_of s → DeskAt g s given u.seen d
 
   -- An engine was found at the desk whose log is full.
   pub record FoundFull (s : Start D) (w : View (Home D) Judged) : Type 0 where
     pub desk : Desk D
-    pub here : DeskAt honest history failures s 0 w.seen desk
-    pub full : IsFull failures desk.engine
+    pub here : DeskAt g s 0 w.seen desk
+    pub full : IsFull g desk.engine
 
   -- What a round leaves: a desk that works, also where the log is full, or one to be given up.
   pub record HasWorked {T : Type 0} (v u : View (Home D) Judged) (d : Desk D) (done : Result T Refusal) : Type 0 where
     pub works : OnOk done (AtDesk 0 v u d)
-    pub full : IfErr done (λ (r : Refusal). r ≡ LogFull → AtDesk 0 v u d × IsFull failures d.engine)
+    pub full : IfErr done (λ (r : Refusal). r ≡ LogFull → AtDesk 0 v u d × IsFull g d.engine)
     pub given : AtDesk 1 v u d
 
 -- What a keeper says: an item that is durable, which the seat has seen durable since; and readers may be told the list of all items up

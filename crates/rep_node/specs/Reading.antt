@@ -7,7 +7,7 @@ use Rattle.rep_types.specs.declared.refusal.Refusal.{Refusal}
 use Rattle.rep_types.specs.declared.refusal.Refusal.TheVariants.{DiskFault, Stopped, TooOld, NotYet, BadKey, Corrupt, Closed}
 use Rattle.rep_types.specs.Settings.{Setting, has_row}
 use Rattle.rep_types.specs.Order.{Order, items_of, read}
-use Rattle.rep_disk.specs.History.{History}
+use Rattle.rep_disk.specs.declared.disk.Disk.{Ghosts}
 use Rattle.rep_cert.specs.Holdings.{Holding, Holdings}
 use Rattle.rep_steps.specs.declared.event.Event.TheVariants.{Read}
 use Rattle.rep_steps.specs.Moves.{Moves}
@@ -44,7 +44,7 @@ module _ {D : Type 0} where
   abbrev pub IsReaderOf : View (Home D) Judged → Watching Origin → Type 0
   IsReaderOf v r = (s : Start D) → v.first ≡ values_of s → (r.book ≡ s.desk.publisher.book) × (r.basis ≡ s.desk.publisher.basis) × (r.start ≡ position_of s)
 
-  module _ (honest : D → Type 0) (history : D → History) (failures : D → ℕ) where
+  module _ (g : Ghosts D) where
     -- The row is that of a legal history behind what the node was started with, one that reaches the position: a history that the reader saw
     -- published, each item with what it wrote, or a front of what the seat then sees.
     pub record IsRowOf (s : Start D) (w : View (Home D) Judged) (r : Watching Origin) (key : Key) (at : ℕ) (found : Option (List ℕ)) : Type 0 where
@@ -52,12 +52,12 @@ module _ {D : Type 0} where
       pub legal : Legal s.certifier.current items
       pub known : (published r.seen ≡ shown items) ⊎ StartsWith w.seen items
       pub reaches : at ≤ position_of s + length items
-      pub row : (L : Order) (n : Node) → IsOf L n → StartsAs honest history failures s.desk.engine s.certifier.current n → found ≡ read s.certifier.current.setting (L ++ items_of items) key at
+      pub row : (L : Order) (n : Node) → IsOf L n → StartsAs g s.desk.engine s.certifier.current n → found ≡ read s.certifier.current.setting (L ++ items_of items) key at
 
     -- The row is that of each order that a node of the first one goes on to with what the engine has taken.
     pub record IsRowAt (e : Engine D) (key : Key) (at : ℕ) (found : Option (List ℕ)) : Type 0 where
       pub reaches : at ≤ durable_of e.log
-      pub row : (L : Order) (n : Node) (first : Engine D) (c : Holding) (items : List Judged) → IsOf L n → StartsAs honest history failures first c n → Legal c items → HasTaken honest history failures first c items e
+      pub row : (L : Order) (n : Node) (first : Engine D) (c : Holding) (items : List Judged) → IsOf L n → StartsAs g first c n → Legal c items → HasTaken g first c items e
           → found ≡ read c.setting (L ++ items_of items) key at
 
     -- what a refusal of an engine says that is not stopped
@@ -66,15 +66,15 @@ module _ {D : Type 0} where
     EngineRefuses e key at (NotYet durable) = (durable ≡ durable_of e.log) × (durable < at)
     EngineRefuses e key at (TooOld oldest) = at < oldest
     EngineRefuses e key at DiskFault = Unit {0}
-    EngineRefuses e key at (Corrupt part) = (part ≡ Pages) × ((n : Node) → Holds honest history failures n e → ⊥)
+    EngineRefuses e key at (Corrupt part) = (part ≡ Pages) × ((n : Node) → Holds g n e → ⊥)
     EngineRefuses e key at refusal = ⊥
 
     -- The engine that lay at the desk was asked, and this is what it answered.
     pub record Asked (s : Start D) (w : View (Home D) Judged) (key : Key) (at : ℕ) (answer : Result (Option (List ℕ)) Refusal) : Type 0 where
       pub desk : Desk D
-      pub here : DeskAt honest history failures s 0 w.seen desk
+      pub here : DeskAt g s 0 w.seen desk
       pub behind : Engine D
-      pub moves : Moves (facts_of failures desk.engine) (Read key at) (row answer) (facts_of failures behind)
+      pub moves : Moves (facts_of g desk.engine) (Read key at) (row answer) (facts_of g behind)
 
     module _ (v w : View (Home D) Judged) (key : Key) (at : ℕ) where
       -- the engine was asked, or the node was halted before
@@ -96,7 +96,7 @@ module _ {D : Type 0} where
       RefusesAsked (TooOld oldest) = at < oldest
       RefusesAsked Stopped = w.halted ≡ 1
       RefusesAsked DiskFault = w.halted ≡ 1
-      RefusesAsked (Corrupt part) = (part ≡ Pages) × ((s : Start D) → v.first ≡ values_of s → (n : Node) → StartsAs honest history failures s.desk.engine s.certifier.current n → ⊥)
+      RefusesAsked (Corrupt part) = (part ≡ Pages) × ((s : Start D) → v.first ≡ values_of s → (n : Node) → StartsAs g s.desk.engine s.certifier.current n → ⊥)
       RefusesAsked refusal = ⊥
 
       module _ (shut : Watching Origin → Type 0) (r q : Watching Origin) where

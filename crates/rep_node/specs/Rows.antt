@@ -6,7 +6,7 @@ use Rattle.rep_types.specs.declared.judged.Judged.{Judged}
 use Rattle.rep_types.specs.declared.refusal.Refusal.{Refusal}
 use Rattle.rep_types.specs.Settings.{Setting}
 use Rattle.rep_types.specs.Order.{Order, items_of, read}
-use Rattle.rep_disk.specs.History.{History}
+use Rattle.rep_disk.specs.declared.disk.Disk.{Ghosts}
 use Rattle.rep_cert.specs.Holdings.{Holdings}
 use Rattle.rep_steps.specs.Nodes.{Node}
 use Rattle.rep_steps.specs.Orders.{IsOf}
@@ -48,7 +48,7 @@ module _ {D : Type 0} where
     pub found : IsFront allowed shut before behind front
     pub still : b.seat ≡ a.seat
 
-  module _ (honest : D → Type 0) (history : D → History) (failures : D → ℕ) where
+  module _ (g : Ghosts D) where
     -- The rows are those of this order, under these parameters: what the node was started with stood for a node of an order, and this one goes
     -- on from that by a legal history, which goes on from what the seat has seen, and of which is published what the reader saw.
     pub record HasRowsOf (x : Beside D) (p : Setting) (L : Order) : Type 0 where
@@ -58,7 +58,7 @@ module _ {D : Type 0} where
       pub order : Order
       pub node : Node
       pub is_of : IsOf order node
-      pub starts : StartsAs honest history failures start.desk.engine start.certifier.current node
+      pub starts : StartsAs g start.desk.engine start.certifier.current node
       pub items : List Judged
       pub legal : Legal start.certifier.current items
       pub whole : L ≡ order ++ items_of items
@@ -74,7 +74,7 @@ module _ {D : Type 0} where
       pub is : b.reader ≡ Some behind
       pub lock : b.seat.lock ≡ a.seat.lock
       pub idle : WentIdle a.seat.view b.seat.view
-      pub reads : Reads honest history failures a.seat.view b.seat.view key s shut before behind answer
-      pub refused : IfErr answer (Refuses honest history failures a.seat.view b.seat.view key s shut before behind)
+      pub reads : Reads g a.seat.view b.seat.view key s shut before behind answer
+      pub refused : IfErr answer (Refuses g a.seat.view b.seat.view key s shut before behind)
       pub forgets : (p : Setting) (L : Order) → HasRowsOf b p L → HasRowsOf a p L
       pub rows : (x : Option (List ℕ)) (p : Setting) (L : Order) → answer ≡ Ok x → HasRowsOf b p L → x ≡ read p L key s

@@ -4,7 +4,7 @@ use Rattle.rep_types.specs.declared.item.Item.{Item}
 use Rattle.rep_types.specs.declared.judged.Judged.{Judged}
 use Rattle.rep_types.specs.declared.verdict.Verdict.{Verdict}
 use Rattle.rep_types.specs.declared.limits.TheConstants.{MAX_SEQNO}
-use Rattle.rep_disk.specs.History.{History}
+use Rattle.rep_disk.specs.declared.disk.Disk.{Ghosts}
 use Rattle.rep_ordered.specs.declared.view.Joined.{Joined}
 use Rattle.rep_ordered.specs.declared.view.View.{View}
 use Rattle.rep_ordered.specs.Counts.{times}
@@ -15,19 +15,19 @@ use Rattle.rep_node.specs.Homes.{Start, Begins, IsLegal, position_of, values_of}
 
 -- A seat of a node that was started with these values: the seqnos begin behind its position, and end at the last one, and it drew none
 -- twice.
-pub record IsSeat {D : Type 0} (honest : D → Type 0) (history : D → History) (failures : D → ℕ) (v : View (Home D) Judged) : Type 0 where
+pub record IsSeat {D : Type 0} (g : Ghosts D) (v : View (Home D) Judged) : Type 0 where
   pub start : Start D
   pub first : v.first ≡ values_of start
-  pub begins : Begins honest history failures start
+  pub begins : Begins g start
   pub number : v.start ≡ position_of start + 1
   pub whole : v.start + v.whole ≡ MAX_SEQNO + 1
   pub once : (x : ℕ) → times x v.own ≤ 1
 
 -- A seat went on, and drew this one number.
-pub record DrewOne {D : Type 0} (honest : D → Type 0) (history : D → History) (failures : D → ℕ) (number : ℕ) (v w : View (Home D) Judged) : Type 0 where
+pub record DrewOne {D : Type 0} (g : Ghosts D) (number : ℕ) (v w : View (Home D) Judged) : Type 0 where
   pub went : Went v w
   pub own : w.own ≡ v.own ++ number ∷ []
-  pub seat : IsSeat honest history failures w
+  pub seat : IsSeat g w
 
 -- an entry of the seat's own
 abbrev pub own_entry : Judged → Joined Judged
@@ -67,8 +67,8 @@ module _ {D : Type 0} where
 
 -- A seat between two calls, whose owner may draw so many seqnos more: it holds no station and sees a legal history, and each seqno that it
 -- drew has passed, unless it knows of a halt. Then it may draw fewer than it might.
-pub record Rests {D : Type 0} (honest : D → Type 0) (history : D → History) (failures : D → ℕ) (v : View (Home D) Judged) (allowance : ℕ) : Type 0 where
-  pub seat : IsSeat honest history failures v
+pub record Rests {D : Type 0} (g : Ghosts D) (v : View (Home D) Judged) (allowance : ℕ) : Type 0 where
+  pub seat : IsSeat g v
   pub free : v.held ≡ []
   pub less : allowance ≤ v.allowance
   pub left : v.halted ≡ 0 → allowance ≡ v.allowance

@@ -7,7 +7,8 @@ use Rattle.rep_types.specs.declared.refusal.Refusal.{Refusal}
 use Rattle.rep_types.specs.declared.refusal.Refusal.TheVariants.{Exhausted, OutOfMemory, Stopped}
 use Rattle.rep_types.specs.declared.limits.TheConstants.{MAX_SEQNO}
 use Rattle.rep_types.specs.Order.{Order, history as history_of, items_of as items_in}
-use Rattle.rep_disk.specs.History.{History, IsImage}
+use Rattle.rep_disk.specs.declared.disk.Disk.{Ghosts}
+use Rattle.rep_disk.specs.History.{IsImage}
 use Rattle.rep_engine.specs.Engines.{durable_of}
 use Rattle.rep_steps.specs.Nodes.{Node}
 use Rattle.rep_steps.specs.Orders.{IsOf}
@@ -43,7 +44,7 @@ EndedFor old count new receipts refusal = ((refusal ≡ Stopped) × ((new.stoppe
 -- batch, and durable, and its seqno is above that of the one before; where the batch has no end, the history is that of the receipts, one for each item, and where it was refused, there is
 -- none. Where the old replica stood for an order, the history is what that order has behind it with the history's items at its end; so the new
 -- one stands for that longer order unless it was stopped, and each image of its device for a front of it with what is durable.
-pub record IsServed {D : Type 0} (honest : D → Type 0) (history : D → History) (failures : D → ℕ) (old : Replica D) (items : List Item) (new : Replica D) (receipts : List Receipt) (end : Option Refusal) : Type 0 where
+pub record IsServed {D : Type 0} (g : Ghosts D) (old : Replica D) (items : List Item) (new : Replica D) (receipts : List Receipt) (end : Option Refusal) : Type 0 where
   pub judged : List Judged
   pub legal : Legal old.certifier.current judged
   pub told : Every (IsTold items (durable_of old.engine.log) (durable_of new.engine.log) judged) receipts
@@ -52,9 +53,9 @@ pub record IsServed {D : Type 0} (honest : D → Type 0) (history : D → Histor
   pub count : end ≡ None → length receipts ≡ length items
   pub whole : end ≡ None → AllZip (IsReceiptOf items) receipts judged
   pub idle : IfSome end (λ (refusal : Refusal). (refusal ≡ Stopped) ⊎ (judged ≡ []))
-  pub entries : (L : Order) (n : Node) → IsOf L n → Holds honest history failures n old → judged ≡ drop (length L) (history_of old.certifier.current.setting (L ++ items_in judged))
-  pub stands : (L : Order) (n : Node) → IsOf L n → Holds honest history failures n old → new.stopped ≡ false → (m : Node) × IsOf (L ++ items_in judged) m × Holds honest history failures m new
+  pub entries : (L : Order) (n : Node) → IsOf L n → Holds g n old → judged ≡ drop (length L) (history_of old.certifier.current.setting (L ++ items_in judged))
+  pub stands : (L : Order) (n : Node) → IsOf L n → Holds g n old → new.stopped ≡ false → (m : Node) × IsOf (L ++ items_in judged) m × Holds g m new
   pub taken : List Judged
   pub begins : StartsWith judged taken
-  pub images : (L : Order) (n : Node) → IsOf L n → Holds honest history failures n old → (image : List ℕ) → IsImage (history new.engine.disk) image
+  pub images : (L : Order) (n : Node) → IsOf L n → Holds g n old → (image : List ℕ) → IsImage (g.history new.engine.disk) image
       → IsFrontOf Means old.engine.checkpoint.base.uuid old.certifier.current.setting (L ++ items_in taken) (durable_of new.engine.log) image

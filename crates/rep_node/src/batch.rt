@@ -99,7 +99,7 @@ impl<D: Disk> Node<D> {
         pace: &P,
         keeps: bool,
     )
-        requires ready { IsReady D.honest D.history D.failures self.now (length items.now) job.old }
+        requires ready { IsReady D.Disk self.now (length items.now) job.old }
         ensures worked { Worked (P.lets pace.now) keeps items.now job.old job.new }
     {
         for place in job.from..job.to {
@@ -180,7 +180,7 @@ impl<D: Disk + Send> Node<D> {
         keeps: bool,
     )
         requires workers { 0 < workers }
-        requires ready { Every (IsReady D.honest D.history D.failures self.now (length items.now)) jobs.old }
+        requires ready { Every (IsReady D.Disk self.now (length items.now)) jobs.old }
         ensures len { length jobs.new ≡ length jobs.old }
         ensures worked { (i : ℕ) (d : Job D) → i < length jobs.old → Worked (P.lets pace.now) keeps items.now (slice_index_or jobs.old i d) (slice_index_or jobs.new i d) }
     {
@@ -189,7 +189,7 @@ impl<D: Disk + Send> Node<D> {
             jobs,
             workers,
             &|_place: usize, job: &mut Job<D>|
-                requires { IsReady D.honest D.history D.failures self.now (length items.now) job.old }
+                requires { IsReady D.Disk self.now (length items.now) job.old }
                 ensures { Worked (P.lets pace.entry.now) keeps items.entry.now job.old job.new }
             { self.work(rt, items, job, pace, keeps) },
         );
@@ -209,7 +209,7 @@ impl<D: Disk + Send> Node<D> {
         keeps: bool,
     ) -> Option<Refusal>
         requires lock { seat.old.lock ≡ self.now }
-        requires seat { IsSeat D.honest D.history D.failures seat.old.view }
+        requires seat { IsSeat D.Disk seat.old.view }
         requires free { seat.old.view.held ≡ [] }
         requires runs { seat.old.view.halted ≡ 0 }
         requires sees { SeesLegal seat.old.view seat.old.view }
@@ -241,12 +241,12 @@ impl<D: Disk + Send> Node<D> {
         keeps: bool,
     ) -> Result<Batch, Refusal>
         requires lock { seat.old.lock ≡ self.now }
-        requires rests { (allowance : ℕ) × Rests D.honest D.history D.failures seat.old.view allowance }
+        requires rests { (allowance : ℕ) × Rests D.Disk seat.old.view allowance }
         requires allowance { length items.now < seat.old.view.allowance }
         requires runs { seat.old.view.halted ≡ 0 }
         requires workers { 0 < workers }
         ensures lock { seat.new.lock ≡ seat.old.lock }
-        ensures seat { IsSeat D.honest D.history D.failures seat.new.view }
+        ensures seat { IsSeat D.Disk seat.new.view }
         ensures sees { SeesLegal seat.new.view seat.new.view }
         ensures handed_in { IfOk result (HandedIn (P.lets pace.now) items.now (length items.now) seat.old.view seat.new.view) }
         ensures kept { KeptBy keeps seat.old.view seat.new.view }

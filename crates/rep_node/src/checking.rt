@@ -41,8 +41,8 @@ pub struct Checked {
 /// Refuses with `NotDue` where one is under way, or where the base stands at what is durable: the engine is then as it was. Any other
 /// refusal, of the device or of a growth, leaves an engine to be given up.
 fn begin<D: Disk>(engine: &mut Engine<D>, certifier: &Certifier) -> Result<u64, Refusal>
-    requires lent { (s : Start D) × (taken : List Entry) × (more : List Entry) × MayLend D.honest D.history D.failures s taken more certifier.now.current engine.old }
-    ensures taken { (s : Start D) → (taken : List Entry) → (more : List Entry) → MayLend D.honest D.history D.failures s taken more certifier.now.current engine.old → HasTaken D.honest D.history D.failures s.desk.engine s.certifier.current taken engine.new }
+    requires lent { (s : Start D) × (taken : List Entry) × (more : List Entry) × MayLend D.Disk s taken more certifier.now.current engine.old }
+    ensures taken { (s : Start D) → (taken : List Entry) → (more : List Entry) → MayLend D.Disk s taken more certifier.now.current engine.old → HasTaken D.Disk s.desk.engine s.certifier.current taken engine.new }
     ensures still { (engine.new.log ≡ engine.old.log) × (engine.new.block ≡ engine.old.block) }
     ensures base { engine.old.checkpoint.base.position ≤ engine.new.checkpoint.base.position }
     ensures works { engine.old.halted ≡ None → OnOk result (engine.new.halted ≡ None) }
@@ -64,7 +64,7 @@ fn begin<D: Disk>(engine: &mut Engine<D>, certifier: &Certifier) -> Result<u64, 
 /// The step that the checkpoint under way waits for: a page's flush, the next write, or a sync. It takes no memory, and does nothing where
 /// no checkpoint is under way.
 fn advance<D: Disk>(engine: &mut Engine<D>) -> Result<(), Refusal>
-    ensures taken { (first : Contents D) → (c : Holding) → (items : List Entry) → HasTaken D.honest D.history D.failures first c items engine.old → HasTaken D.honest D.history D.failures first c items engine.new }
+    ensures taken { (first : Contents D) → (c : Holding) → (items : List Entry) → HasTaken D.Disk first c items engine.old → HasTaken D.Disk first c items engine.new }
     ensures rises { durable_of engine.old.log ≤ durable_of engine.new.log }
     ensures base { engine.old.checkpoint.base.position ≤ engine.new.checkpoint.base.position }
     ensures works { engine.old.halted ≡ None → OnOk result (engine.new.halted ≡ None) }
@@ -87,9 +87,9 @@ fn advance<D: Disk>(engine: &mut Engine<D>) -> Result<(), Refusal>
 ///
 /// Any refusal, of the device or of a growth, leaves an engine to be given up.
 fn take_on<D: Disk, R: Wait>(rt: &R, desk: Desk<D>) -> (Desk<D>, Result<(), Refusal>)
-    requires work { (s : Start D) × (items : List Entry) × AtWork D.honest D.history D.failures s items desk }
-    ensures works { (s : Start D) → (items : List Entry) → AtWork D.honest D.history D.failures s items desk → OnOk result.1 (AtWork D.honest D.history D.failures s items result.0) }
-    ensures given { (s : Start D) → (items : List Entry) → AtWork D.honest D.history D.failures s items desk → DeskAt D.honest D.history D.failures s 1 items result.0 }
+    requires work { (s : Start D) × (items : List Entry) × AtWork D.Disk s items desk }
+    ensures works { (s : Start D) → (items : List Entry) → AtWork D.Disk s items desk → OnOk result.1 (AtWork D.Disk s items result.0) }
+    ensures given { (s : Start D) → (items : List Entry) → AtWork D.Disk s items desk → DeskAt D.Disk s 1 items result.0 }
     ensures rises { durable_of desk.engine.log ≤ durable_of result.0.engine.log }
     ensures common { common_of_desk result.0 ≡ common_of_desk desk }
 {
@@ -106,11 +106,11 @@ fn take_on<D: Disk, R: Wait>(rt: &R, desk: Desk<D>) -> (Desk<D>, Result<(), Refu
 ///
 /// Refuses with `OutOfMemory` where a growth was refused.
 fn prune<D: Disk, R: Wait>(rt: &R, desk: Desk<D>) -> (Desk<D>, Result<Option<Checked>, Refusal>)
-    ensures works { (s : Start D) → (items : List Entry) → AtWork D.honest D.history D.failures s items desk → OnOk result.1 (AtWork D.honest D.history D.failures s items result.0) }
-    ensures given { (s : Start D) → (items : List Entry) → AtWork D.honest D.history D.failures s items desk → DeskAt D.honest D.history D.failures s 1 items result.0 }
+    ensures works { (s : Start D) → (items : List Entry) → AtWork D.Disk s items desk → OnOk result.1 (AtWork D.Disk s items result.0) }
+    ensures given { (s : Start D) → (items : List Entry) → AtWork D.Disk s items desk → DeskAt D.Disk s 1 items result.0 }
     ensures same { result.0.engine ≡ desk.engine }
     ensures says { IfOk result.1 (λ ended. ended ≡ said_of Begin result.0) }
-    ensures pruned { (s : Start D) → (items : List Entry) → AtWork D.honest D.history D.failures s items desk → OnOk result.1 (IsPruned s result.0) }
+    ensures pruned { (s : Start D) → (items : List Entry) → AtWork D.Disk s items desk → OnOk result.1 (IsPruned s result.0) }
     ensures refused { IfErr result.1 (λ refusal. refusal ≡ OutOfMemory) }
 {
     histories_grow();
@@ -140,13 +140,13 @@ fn prune<D: Disk, R: Wait>(rt: &R, desk: Desk<D>) -> (Desk<D>, Result<Option<Che
 ///
 /// Any refusal, of the device or of a growth, leaves an engine to be given up.
 fn step_on<D: Disk, R: Wait>(rt: &R, desk: Desk<D>) -> (Desk<D>, Result<Option<Checked>, Refusal>)
-    requires work { (s : Start D) × (items : List Entry) × AtWork D.honest D.history D.failures s items desk }
-    ensures works { (s : Start D) → (items : List Entry) → AtWork D.honest D.history D.failures s items desk → OnOk result.1 (AtWork D.honest D.history D.failures s items result.0) }
-    ensures given { (s : Start D) → (items : List Entry) → AtWork D.honest D.history D.failures s items desk → DeskAt D.honest D.history D.failures s 1 items result.0 }
+    requires work { (s : Start D) × (items : List Entry) × AtWork D.Disk s items desk }
+    ensures works { (s : Start D) → (items : List Entry) → AtWork D.Disk s items desk → OnOk result.1 (AtWork D.Disk s items result.0) }
+    ensures given { (s : Start D) → (items : List Entry) → AtWork D.Disk s items desk → DeskAt D.Disk s 1 items result.0 }
     ensures rises { durable_of desk.engine.log ≤ durable_of result.0.engine.log }
     ensures common { common_of_desk result.0 ≡ common_of_desk desk }
     ensures says { IfOk result.1 (λ ended. ended ≡ said_of (due_in desk.engine.checkpoint.stage) result.0) }
-    ensures pruned { due_in desk.engine.checkpoint.stage ≡ Begin → (s : Start D) → (items : List Entry) → AtWork D.honest D.history D.failures s items desk → OnOk result.1 (IsPruned s result.0) }
+    ensures pruned { due_in desk.engine.checkpoint.stage ≡ Begin → (s : Start D) → (items : List Entry) → AtWork D.Disk s items desk → OnOk result.1 (IsPruned s result.0) }
 {
     match desk.engine.get().checkpoint_step() {
         Step::Begin => prune(rt, desk),
@@ -168,13 +168,13 @@ impl<D: Disk> Node<D> {
     /// was halted, which it does itself where the device fails, or where there is no memory.
     fn begin_checkpoint<R: Wait>(&self, rt: &R, seat: &mut LockSeat<D>) -> Result<u64, Refusal>
         requires lock { seat.old.lock ≡ self.now }
-        requires seat { IsSeat D.honest D.history D.failures seat.old.view }
+        requires seat { IsSeat D.Disk seat.old.view }
         requires free { seat.old.view.held ≡ [] }
         ensures lock { seat.new.lock ≡ seat.old.lock }
         ensures idle { WentIdle seat.old.view seat.new.view }
         ensures position { IfOk result (λ position. seat.old.view.durable ≤ position) }
         ensures goes { result ≢ Err is_stopped → (seat.new.view.halted ≡ 0) × (seat.new.view.given_up ≡ seat.old.view.given_up) }
-        ensures due { result ≡ Err NotDue → (s : Start D) → seat.old.view.first ≡ values_of s → FoundNoneDue D.honest D.history D.failures s seat.new.view }
+        ensures due { result ≡ Err NotDue → (s : Start D) → seat.old.view.first ≡ values_of s → FoundNoneDue D.Disk s seat.new.view }
         ensures refused { IfErr result (λ refusal. (refusal ≡ NotDue) ⊎ ((refusal ≡ is_stopped) × (seat.new.view.halted ≡ 1))) }
     {
         let certifier = certifier_of(self.lock.side_enter(rt, seat, 0)?);
@@ -211,7 +211,7 @@ impl<D: Disk> Node<D> {
     /// form, or where there is no memory.
     fn go_on<R: Wait>(&self, rt: &R, seat: &mut LockSeat<D>) -> Result<Option<Checked>, Refusal>
         requires lock { seat.old.lock ≡ self.now }
-        requires seat { IsSeat D.honest D.history D.failures seat.old.view }
+        requires seat { IsSeat D.Disk seat.old.view }
         requires free { seat.old.view.held ≡ [] }
         ensures lock { seat.new.lock ≡ seat.old.lock }
         ensures idle { WentIdle seat.old.view seat.new.view }
@@ -241,13 +241,13 @@ impl<D: Disk> Node<D> {
         seat: &mut LockSeat<D>,
     ) -> Result<Checked, Refusal>
         requires lock { seat.old.lock ≡ self.now }
-        requires seat { IsSeat D.honest D.history D.failures seat.old.view }
+        requires seat { IsSeat D.Disk seat.old.view }
         requires free { seat.old.view.held ≡ [] }
         ensures lock { seat.new.lock ≡ seat.old.lock }
         ensures idle { WentIdle seat.old.view seat.new.view }
         ensures checked { IfOk result (λ checked. IsChecked seat.old.view seat.new.view checked) }
         ensures goes { result ≢ Err is_stopped → (seat.new.view.halted ≡ 0) × (seat.new.view.given_up ≡ seat.old.view.given_up) }
-        ensures due { result ≡ Err NotDue → (s : Start D) → seat.old.view.first ≡ values_of s → FoundNoneDue D.honest D.history D.failures s seat.new.view }
+        ensures due { result ≡ Err NotDue → (s : Start D) → seat.old.view.first ≡ values_of s → FoundNoneDue D.Disk s seat.new.view }
         ensures refused { IfErr result (λ refusal. (refusal ≡ NotDue) ⊎ ((refusal ≡ is_stopped) × (seat.new.view.halted ≡ 1))) }
     {
         let position = self.begin_checkpoint(rt, seat)?;
@@ -278,7 +278,7 @@ impl<D: Disk> Node<D> {
         ensures idle { WentIdle seat.old.view seat.new.view }
         ensures checked { IfOk result (λ checked. IsChecked seat.old.view seat.new.view checked) }
         ensures goes { result ≢ Err is_stopped → (seat.new.view.halted ≡ 0) × (seat.new.view.given_up ≡ seat.old.view.given_up) }
-        ensures due { result ≡ Err NotDue → (s : Start D) → seat.old.view.first ≡ values_of s → FoundNoneDue D.honest D.history D.failures s seat.new.view }
+        ensures due { result ≡ Err NotDue → (s : Start D) → seat.old.view.first ≡ values_of s → FoundNoneDue D.Disk s seat.new.view }
         ensures refused { IfErr result (λ refusal. (refusal ≡ NotDue) ⊎ ((refusal ≡ is_stopped) × (seat.new.view.halted ≡ 1))) }
     {
         self.check_seat(rt, &mut seat.seat)

@@ -24,10 +24,10 @@ impl<D: Disk> Node<D> {
         seat: &mut LockSeat<D>,
     ) -> Result<Desk<D>, Refusal>
         requires lock { seat.old.lock ≡ self.now }
-        requires seat { IsSeat D.honest D.history D.failures seat.old.view }
+        requires seat { IsSeat D.Disk seat.old.view }
         requires free { seat.old.view.held ≡ [] }
         ensures lock { seat.new.lock ≡ seat.old.lock }
-        ensures at { IfOk result (AtDesk D.honest D.history D.failures 0 seat.old.view seat.new.view) }
+        ensures at { IfOk result (AtDesk D.Disk 0 seat.old.view seat.new.view) }
         ensures known { IfOk result (λ desk. seat.new.view.durable ≤ durable_of desk.engine.log) }
         ensures runs { IfOk result (λ _. (seat.new.view.halted ≡ 0) × (seat.old.view.halted ≡ 0)) }
         ensures idle { IfErr result (λ _. WentIdle seat.old.view seat.new.view × (seat.new.view.given_up ≡ seat.old.view.given_up)) }
@@ -41,9 +41,9 @@ impl<D: Disk> Node<D> {
     /// Leaves the engine's station: the engine works, and the node goes on.
     pub(crate) fn leave_desk(&self, seat: &mut LockSeat<D>, desk: Desk<D>)
         requires lock { seat.old.lock ≡ self.now }
-        requires at { (v : _) × AtDesk D.honest D.history D.failures 0 v seat.old.view desk }
+        requires at { (v : _) × AtDesk D.Disk 0 v seat.old.view desk }
         ensures lock { seat.new.lock ≡ seat.old.lock }
-        ensures idle { (v : _) → AtDesk D.honest D.history D.failures 0 v seat.old.view desk → WentIdle v seat.new.view }
+        ensures idle { (v : _) → AtDesk D.Disk 0 v seat.old.view desk → WentIdle v seat.new.view }
         ensures backed { seat.new.view.backed ≡ durable_of desk.engine.log }
         ensures runs { (seat.new.view.halted ≡ seat.old.view.halted) × (seat.new.view.given_up ≡ seat.old.view.given_up) }
         ensures same { (seat.new.view.seen ≡ seat.old.view.seen) × (seat.new.view.durable ≡ seat.old.view.durable) }
@@ -54,9 +54,9 @@ impl<D: Disk> Node<D> {
     /// Halts the node, and gives the engine's station up.
     pub(crate) fn give_desk_up(&self, seat: &mut LockSeat<D>, desk: Desk<D>)
         requires lock { seat.old.lock ≡ self.now }
-        requires at { (v : _) × AtDesk D.honest D.history D.failures 1 v seat.old.view desk }
+        requires at { (v : _) × AtDesk D.Disk 1 v seat.old.view desk }
         ensures lock { seat.new.lock ≡ seat.old.lock }
-        ensures idle { (v : _) → AtDesk D.honest D.history D.failures 1 v seat.old.view desk → WentIdle v seat.new.view }
+        ensures idle { (v : _) → AtDesk D.Disk 1 v seat.old.view desk → WentIdle v seat.new.view }
         ensures halted { seat.new.view.halted ≡ 1 }
         ensures seen { StartsWith seat.new.view.seen seat.old.view.seen }
     {

@@ -163,11 +163,11 @@ fn start_from<D: Disk, R: Wait>(
     engine: Engine<D>,
     readers: usize,
 ) -> Result<Started<D>, (Certifier, Backlog, Engine<D>)>
-    requires parts { AreParts D.honest D.history D.failures certifier backlog engine }
+    requires parts { AreParts D.Disk certifier backlog engine }
     requires readers { (0 < readers) × (readers ≤ 64) }
     ensures lock { IfOk result (λ made. made.1.lock ≡ made.0) }
     ensures view { IfOk result (λ made. made.1.view ≡ opened durable_in common_in (durable_of engine.log + 1) (MAX_SEQNO - durable_of engine.log) made.1.view.first (durable_of engine.log)) }
-    ensures starts { IfOk result (λ made. StartsFromParts D.honest D.history D.failures certifier backlog engine made.1.view made.2.items) }
+    ensures starts { IfOk result (λ made. StartsFromParts D.Disk certifier backlog engine made.1.view made.2.items) }
     ensures readers { IfOk result (λ made. length made.2.items ≡ readers) }
     ensures refused { IfErr result (λ back. (back.0 ≡ certifier) × (back.1 ≡ backlog) × (back.2 ≡ engine)) }
 {
@@ -227,12 +227,12 @@ impl<D: Disk> Node<D> {
         replica: Replica<D>,
         readers: usize,
     ) -> Result<(Node<D>, Seat<D>, Vec<NodeReader>), (Replica<D>, Refusal)>
-        requires quiet { is_quiet (facts_of D.failures replica) ≡ true }
+        requires quiet { is_quiet (facts_of D.Disk replica) ≡ true }
         requires defined { IsFalse (is_nil_bytes replica.engine.checkpoint.base.uuid) }
         requires readers { (0 < readers) × (readers ≤ 64) }
         ensures lock { IfOk result (λ made. made.1.lock ≡ made.0) }
         ensures view { IfOk result (λ made. made.1.view ≡ opened durable_in common_in (durable_of replica.engine.log + 1) (MAX_SEQNO - durable_of replica.engine.log) made.1.view.first (durable_of replica.engine.log)) }
-        ensures starts { IfOk result (λ made. StartsFrom D.honest D.history D.failures replica made.1.view made.2.items) }
+        ensures starts { IfOk result (λ made. StartsFrom D.Disk replica made.1.view made.2.items) }
         ensures readers { IfOk result (λ made. length made.2.items ≡ readers) }
         ensures running { IfOk result (λ made. IsRunning replica) }
         ensures refused { IfErr result (λ back. (back.0 ≡ replica) × (((back.1 ≡ OutOfMemory) × IsRunning replica) ⊎ ((back.1 ≡ is_stopped) × ((replica.stopped || is_some replica.engine.halted) ≡ true)))) }
@@ -262,7 +262,7 @@ impl<D: Disk> Node<D> {
         requires all { HasAll seat.view }
         ensures stopped { (IsTrue result.stopped → seat.view.halted ≡ 1) × (IsFalse result.stopped → seat.view.halted ≡ 0) }
         ensures legal { IsLegal seat.view.first seat.view.seen }
-        ensures ends { EndsAs D.honest D.history D.failures seat.view result }
+        ensures ends { EndsAs D.Disk seat.view result }
     {
         histories_lie_between_replicas::<D>();
         histories_extend_the_order::<D>();

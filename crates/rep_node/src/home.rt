@@ -40,11 +40,11 @@ impl<D: Disk> Keeps<Judged> for Home<D> {
 
     ghost legal = { λ first items. IsLegal first items };
 
-    ghost at_home = { λ first station number given items durable home. AtHome D.honest D.history D.failures first station number given items durable home };
+    ghost at_home = { λ first station number given items durable home. AtHome D.Disk first station number given items durable home };
 
     ghost durable_of = { λ home. durable_in home };
 
     ghost common_of = { λ home. common_in home };
 
-    ghost grows = { λ first station number given durable later items more home fits up. home_grows D.honest D.history D.failures first station number given durable later items more home fits up };
+    ghost grows = { λ first station number given durable later items more home fits up. home_grows D.Disk first station number given durable later items more home fits up };
 }

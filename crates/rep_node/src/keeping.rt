@@ -27,7 +27,7 @@ use std::sync::Wait;
 use std::thread;
 
 /// A keeper looks for more items so many times at most before it writes a block.
-const LOOKS: u32 = 128;
+const LOOKS: u32 = 512;
 
 /// What is durable, and what readers may be told: up to there.
 #[derive(Drop)]
@@ -50,8 +50,8 @@ pub(crate) struct Round {
 ///
 /// Refuses with `OutOfMemory` where the engine does: it is then as it was, and so is the queue.
 fn accept<D: Disk>(desk: &mut Desk<D>, queue: &mut Queue) -> Result<bool, Refusal>
-    requires work { (s : Start D) × (number : ℕ) × (items : List Entry) × AreAtWork D.honest D.history D.failures s number items desk.old queue.old }
-    ensures accepted { (s : Start D) → (number : ℕ) → (items : List Entry) → AreAtWork D.honest D.history D.failures s number items desk.old queue.old → OnOk result (AreAtWork D.honest D.history D.failures s number items desk.new queue.new) }
+    requires work { (s : Start D) × (number : ℕ) × (items : List Entry) × AreAtWork D.Disk s number items desk.old queue.old }
+    ensures accepted { (s : Start D) → (number : ℕ) → (items : List Entry) → AreAtWork D.Disk s number items desk.old queue.old → OnOk result (AreAtWork D.Disk s number items desk.new queue.new) }
     ensures durable { OnOk result (durable_of desk.new.engine.log ≡ durable_of desk.old.engine.log) }
     ensures rises { queue.old.accepted ≤ queue.new.accepted }
     ensures unchanged { OnErr result ((desk.new.engine ≡ desk.old.engine) × (desk.new.publisher ≡ desk.old.publisher) × (queue.new ≡ queue.old)) }
@@ -75,11 +75,11 @@ fn accept<D: Disk>(desk: &mut Desk<D>, queue: &mut Queue) -> Result<bool, Refusa
 /// Refuses with `LogFull` only where the log's next cell is still needed: the engine is then as it was; and with `DiskFault` where the
 /// device failed.
 fn write_or_sync<D: Disk>(engine: &mut Engine<D>) -> Result<(), Refusal>
-    ensures taken { (first : Contents D) → (c : Holding) → (items : List Entry) → HasTaken D.honest D.history D.failures first c items engine.old → HasTaken D.honest D.history D.failures first c items engine.new }
+    ensures taken { (first : Contents D) → (c : Holding) → (items : List Entry) → HasTaken D.Disk first c items engine.old → HasTaken D.Disk first c items engine.new }
     ensures rises { durable_of engine.old.log ≤ durable_of engine.new.log }
     ensures base { engine.old.checkpoint.base.position ≤ engine.new.checkpoint.base.position }
     ensures works { engine.old.halted ≡ None → OnOk result (engine.new.halted ≡ None) }
-    ensures full { IfErr result (λ refusal. refusal ≡ LogFull → (engine.new ≡ engine.old) × IsFull D.failures engine.old) }
+    ensures full { IfErr result (λ refusal. refusal ≡ LogFull → (engine.new ≡ engine.old) × IsFull D.Disk engine.old) }
 {
     taken_items_stay::<D>();
     // Tells the proof what holds of the engine.
@@ -101,9 +101,9 @@ pub(crate) fn publish_durable<D: Disk, R: Wait>(
     rt: &R,
     desk: Desk<D>,
 ) -> (Desk<D>, Result<(), Refusal>)
-    requires stepped { (s : Start D) × (items : List Entry) × HasStepped D.honest D.history D.failures s items desk }
-    ensures works { (s : Start D) → (items : List Entry) → HasStepped D.honest D.history D.failures s items desk → OnOk result.1 (AtWork D.honest D.history D.failures s items result.0) }
-    ensures given { (s : Start D) → (items : List Entry) → HasStepped D.honest D.history D.failures s items desk → DeskAt D.honest D.history D.failures s 1 items result.0 }
+    requires stepped { (s : Start D) × (items : List Entry) × HasStepped D.Disk s items desk }
+    ensures works { (s : Start D) → (items : List Entry) → HasStepped D.Disk s items desk → OnOk result.1 (AtWork D.Disk s items result.0) }
+    ensures given { (s : Start D) → (items : List Entry) → HasStepped D.Disk s items desk → DeskAt D.Disk s 1 items result.0 }
     ensures engine { result.0.engine ≡ desk.engine }
     ensures refused { IfErr result.1 (λ refusal. refusal ≡ OutOfMemory) }
 {
@@ -127,12 +127,12 @@ pub(crate) fn publish_durable<D: Disk, R: Wait>(
 /// Refuses with `LogFull` where the log's next cell is still needed: nothing has changed then. Any other refusal, of the device or of a
 /// growth, leaves an engine to be given up.
 fn advance<D: Disk, R: Wait>(rt: &R, desk: Desk<D>) -> (Desk<D>, Result<(), Refusal>)
-    requires work { (s : Start D) × (items : List Entry) × AtWork D.honest D.history D.failures s items desk }
-    ensures works { (s : Start D) → (items : List Entry) → AtWork D.honest D.history D.failures s items desk → OnOk result.1 (AtWork D.honest D.history D.failures s items result.0) }
-    ensures given { (s : Start D) → (items : List Entry) → AtWork D.honest D.history D.failures s items desk → DeskAt D.honest D.history D.failures s 1 items result.0 }
+    requires work { (s : Start D) × (items : List Entry) × AtWork D.Disk s items desk }
+    ensures works { (s : Start D) → (items : List Entry) → AtWork D.Disk s items desk → OnOk result.1 (AtWork D.Disk s items result.0) }
+    ensures given { (s : Start D) → (items : List Entry) → AtWork D.Disk s items desk → DeskAt D.Disk s 1 items result.0 }
     ensures rises { durable_of desk.engine.log ≤ durable_of result.0.engine.log }
     ensures common { common_of_desk result.0 ≡ common_of_desk desk }
-    ensures full { IfErr result.1 (λ refusal. refusal ≡ LogFull → (result.0 ≡ desk) × IsFull D.failures desk.engine) }
+    ensures full { IfErr result.1 (λ refusal. refusal ≡ LogFull → (result.0 ≡ desk) × IsFull D.Disk desk.engine) }
 {
     let mut desk = desk;
     if let Err(refusal) = write_or_sync(desk.engine.get_mut()) {
@@ -173,10 +173,10 @@ impl<D: Disk> Node<D> {
         desk: Desk<D>,
     ) -> (Desk<D>, Result<bool, Refusal>)
         requires lock { seat.old.lock ≡ self.now }
-        requires at { (v : _) × IsSeat D.honest D.history D.failures v × AtDesk D.honest D.history D.failures 0 v seat.old.view desk }
+        requires at { (v : _) × IsSeat D.Disk v × AtDesk D.Disk 0 v seat.old.view desk }
         ensures lock { seat.new.lock ≡ seat.old.lock }
-        ensures at { (v : _) → IsSeat D.honest D.history D.failures v → AtDesk D.honest D.history D.failures 0 v seat.old.view desk → OnOk result.1 (AtDesk D.honest D.history D.failures 0 v seat.new.view result.0) }
-        ensures given { (v : _) → IsSeat D.honest D.history D.failures v → AtDesk D.honest D.history D.failures 0 v seat.old.view desk → AtDesk D.honest D.history D.failures 1 v seat.new.view result.0 }
+        ensures at { (v : _) → IsSeat D.Disk v → AtDesk D.Disk 0 v seat.old.view desk → OnOk result.1 (AtDesk D.Disk 0 v seat.new.view result.0) }
+        ensures given { (v : _) → IsSeat D.Disk v → AtDesk D.Disk 0 v seat.old.view desk → AtDesk D.Disk 1 v seat.new.view result.0 }
         ensures runs { OnOk result.1 (seat.new.view.halted ≡ seat.old.view.halted) }
         ensures refused { IfErr result.1 (λ refusal. refusal ≢ LogFull) }
     {
@@ -201,10 +201,10 @@ impl<D: Disk> Node<D> {
         desk: Desk<D>,
     ) -> (Desk<D>, Result<(), Refusal>)
         requires lock { seat.old.lock ≡ self.now }
-        requires at { (v : _) × IsSeat D.honest D.history D.failures v × AtDesk D.honest D.history D.failures 0 v seat.old.view desk }
+        requires at { (v : _) × IsSeat D.Disk v × AtDesk D.Disk 0 v seat.old.view desk }
         ensures lock { seat.new.lock ≡ seat.old.lock }
-        ensures at { (v : _) → IsSeat D.honest D.history D.failures v → AtDesk D.honest D.history D.failures 0 v seat.old.view desk → OnOk result.1 (AtDesk D.honest D.history D.failures 0 v seat.new.view result.0) }
-        ensures given { (v : _) → IsSeat D.honest D.history D.failures v → AtDesk D.honest D.history D.failures 0 v seat.old.view desk → AtDesk D.honest D.history D.failures 1 v seat.new.view result.0 }
+        ensures at { (v : _) → IsSeat D.Disk v → AtDesk D.Disk 0 v seat.old.view desk → OnOk result.1 (AtDesk D.Disk 0 v seat.new.view result.0) }
+        ensures given { (v : _) → IsSeat D.Disk v → AtDesk D.Disk 0 v seat.old.view desk → AtDesk D.Disk 1 v seat.new.view result.0 }
         ensures runs { OnOk result.1 (seat.new.view.halted ≡ seat.old.view.halted) }
         ensures refused { IfErr result.1 (λ refusal. refusal ≢ LogFull) }
     {
@@ -238,9 +238,9 @@ impl<D: Disk> Node<D> {
         desk: Desk<D>,
     ) -> (Desk<D>, Result<(), Refusal>)
         requires lock { seat.old.lock ≡ self.now }
-        requires at { (v : _) × IsSeat D.honest D.history D.failures v × AtDesk D.honest D.history D.failures 0 v seat.old.view desk }
+        requires at { (v : _) × IsSeat D.Disk v × AtDesk D.Disk 0 v seat.old.view desk }
         ensures lock { seat.new.lock ≡ seat.old.lock }
-        ensures at { (v : _) → IsSeat D.honest D.history D.failures v → AtDesk D.honest D.history D.failures 0 v seat.old.view desk → HasWorked D.honest D.history D.failures v seat.new.view result.0 result.1 }
+        ensures at { (v : _) → IsSeat D.Disk v → AtDesk D.Disk 0 v seat.old.view desk → HasWorked D.Disk v seat.new.view result.0 result.1 }
         ensures runs { OnOk result.1 (seat.new.view.halted ≡ seat.old.view.halted) }
         ensures stays { IfErr result.1 (λ refusal. refusal ≡ LogFull → seat.new.view.halted ≡ seat.old.view.halted) }
     {
@@ -260,13 +260,13 @@ impl<D: Disk> Node<D> {
     /// was halted, which it does itself where the device fails, or where there is no memory.
     fn keep_once<R: Wait>(&self, rt: &R, seat: &mut LockSeat<D>) -> Result<Round, Refusal>
         requires lock { seat.old.lock ≡ self.now }
-        requires seat { IsSeat D.honest D.history D.failures seat.old.view }
+        requires seat { IsSeat D.Disk seat.old.view }
         requires free { seat.old.view.held ≡ [] }
         ensures lock { seat.new.lock ≡ seat.old.lock }
         ensures idle { WentIdle seat.old.view seat.new.view }
         ensures kept { IfOk result (λ round. IsKept seat.old.view seat.new.view round.kept) }
         ensures goes { result ≢ Err is_stopped → (seat.new.view.halted ≡ 0) × (seat.new.view.given_up ≡ seat.old.view.given_up) }
-        ensures full { result ≡ Err LogFull → (s : Start D) → seat.old.view.first ≡ values_of s → FoundFull D.honest D.history D.failures s seat.new.view }
+        ensures full { result ≡ Err LogFull → (s : Start D) → seat.old.view.first ≡ values_of s → FoundFull D.Disk s seat.new.view }
         ensures refused { IfErr result (λ refusal. (refusal ≡ LogFull) ⊎ ((refusal ≡ is_stopped) × (seat.new.view.halted ≡ 1))) }
     {
         let desk = self.enter_desk(rt, seat)?;
@@ -298,13 +298,13 @@ impl<D: Disk> Node<D> {
     /// Makes items durable until the seqno `upto` is, as `keep` does, by a seat of the lock.
     fn keep_upto<R: Wait>(&self, rt: &R, seat: &mut LockSeat<D>, upto: u64) -> Result<Kept, Refusal>
         requires lock { seat.old.lock ≡ self.now }
-        requires seat { IsSeat D.honest D.history D.failures seat.old.view }
+        requires seat { IsSeat D.Disk seat.old.view }
         requires free { seat.old.view.held ≡ [] }
         ensures lock { seat.new.lock ≡ seat.old.lock }
         ensures idle { WentIdle seat.old.view seat.new.view }
         ensures kept { IfOk result (λ kept. (upto ≤ kept.durable) × IsKept seat.old.view seat.new.view kept) }
         ensures goes { result ≢ Err is_stopped → (seat.new.view.halted ≡ 0) × (seat.new.view.given_up ≡ seat.old.view.given_up) }
-        ensures full { result ≡ Err LogFull → (s : Start D) → seat.old.view.first ≡ values_of s → FoundFull D.honest D.history D.failures s seat.new.view }
+        ensures full { result ≡ Err LogFull → (s : Start D) → seat.old.view.first ≡ values_of s → FoundFull D.Disk s seat.new.view }
         ensures refused { IfErr result (λ refusal. (refusal ≡ LogFull) ⊎ ((refusal ≡ is_stopped) × (seat.new.view.halted ≡ 1))) }
     {
         let mut rested = false;
@@ -334,7 +334,7 @@ impl<D: Disk> Node<D> {
         upto: u64,
     ) -> Result<(), Refusal>
         requires lock { seat.old.lock ≡ self.now }
-        requires seat { IsSeat D.honest D.history D.failures seat.old.view }
+        requires seat { IsSeat D.Disk seat.old.view }
         requires free { seat.old.view.held ≡ [] }
         ensures lock { seat.new.lock ≡ seat.old.lock }
         ensures idle { WentIdle seat.old.view seat.new.view }
@@ -370,7 +370,7 @@ impl<D: Disk> Node<D> {
         ensures idle { WentIdle seat.old.view seat.new.view }
         ensures kept { IfOk result (λ kept. (upto ≤ kept.durable) × IsKept seat.old.view seat.new.view kept) }
         ensures goes { result ≢ Err is_stopped → (seat.new.view.halted ≡ 0) × (seat.new.view.given_up ≡ seat.old.view.given_up) }
-        ensures full { result ≡ Err LogFull → (s : Start D) → seat.old.view.first ≡ values_of s → FoundFull D.honest D.history D.failures s seat.new.view }
+        ensures full { result ≡ Err LogFull → (s : Start D) → seat.old.view.first ≡ values_of s → FoundFull D.Disk s seat.new.view }
         ensures refused { IfErr result (λ refusal. (refusal ≡ LogFull) ⊎ ((refusal ≡ is_stopped) × (seat.new.view.halted ≡ 1))) }
     {
         // Tells the proof what holds of every seat.

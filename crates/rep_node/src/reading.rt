@@ -8,7 +8,7 @@ ghost use Rattle.rep_types.specs.Settings.{has_row};
 ghost use Rattle.rep_cert.specs.Holdings.{Holding, Holdings};
 ghost use Rattle.rep_steps.specs.declared.event.Event.TheVariants.{Read};
 ghost use Rattle.rep_steps.specs.Moves.{Moves};
-ghost use Rattle.rep_engine.specs.Engines.{Engine as Contents, facts_of};
+ghost use Rattle.rep_engine.specs.Engines.{Engine as Contents, facts_of, OnlyAsks};
 ghost use Rattle.rep_engine.specs.Holding.{row};
 ghost use Rattle.rep_snap.specs.Views.{Watching, longer};
 ghost use Rattle.rep_snap.specs.Looks.{IsPeek, IsFront};
@@ -104,11 +104,11 @@ impl<W: Door<Origin> + Drop> NodeReader<W> {
 /// What the engine says that stands under the key in the state after so many items, if anything does.
 fn look_up<D: Disk>(engine: &mut Engine<D>, key: Key, at: u64) -> Result<Option<Value>, Refusal>
     requires { engine.old.halted ≡ None }
-    ensures taken { (first : Contents D) → (c : Holding) → (items : List Entry) → HasTaken D.honest D.history D.failures first c items engine.old → HasTaken D.honest D.history D.failures first c items engine.new }
-    ensures still { engine.new ≡ record engine.old { disk = engine.new.disk; halted = engine.new.halted } }
-    ensures moves { Moves (facts_of D.failures engine.old) (Read key at) (row result) (facts_of D.failures engine.new) }
-    ensures row { IfOk result (IsRowAt D.honest D.history D.failures engine.old key at) }
-    ensures refused { IfErr result (EngineRefuses D.honest D.history D.failures engine.old key at) }
+    ensures taken { (first : Contents D) → (c : Holding) → (items : List Entry) → HasTaken D.Disk first c items engine.old → HasTaken D.Disk first c items engine.new }
+    ensures still { OnlyAsks engine.old engine.new }
+    ensures moves { Moves (facts_of D.Disk engine.old) (Read key at) (row result) (facts_of D.Disk engine.new) }
+    ensures row { IfOk result (IsRowAt D.Disk engine.old key at) }
+    ensures refused { IfErr result (EngineRefuses D.Disk engine.old key at) }
     ensures stops { (result ≡ Err DiskFault → IsSome engine.new.halted) × ((result ≡ Err DiskFault) ⊎ (engine.new.halted ≡ None)) }
 {
     taken_items_stay::<D>();
@@ -121,7 +121,7 @@ fn look_up<D: Disk>(engine: &mut Engine<D>, key: Key, at: u64) -> Result<Option<
 impl<D: Disk> Seat<D> {
     /// Tells the proof what holds of every seat.
     pub(crate) fn is_one(&self)
-        ensures seat { IsSeat D.honest D.history D.failures self.now.view }
+        ensures seat { IsSeat D.Disk self.now.view }
         ensures idle { WentIdle self.now.view self.now.view }
         ensures passed { PassedOrStopped self.now.view }
     {
@@ -142,14 +142,14 @@ impl<D: Disk> Node<D> {
         at: u64,
     ) -> Result<Option<Value>, Refusal>
         requires lock { seat.old.lock ≡ self.now }
-        requires seat { IsSeat D.honest D.history D.failures seat.old.view }
+        requires seat { IsSeat D.Disk seat.old.view }
         requires free { seat.old.view.held ≡ [] }
         requires inside { (s : Start D) → seat.old.view.first ≡ values_of s → has_row s.certifier.current.setting.rows key ≡ true }
         ensures lock { seat.new.lock ≡ seat.old.lock }
         ensures idle { WentIdle seat.old.view seat.new.view }
-        ensures asked { AsksEngine D.honest D.history D.failures seat.old.view seat.new.view key at result }
-        ensures row { IfOk result (λ row. (s : Start D) → seat.old.view.first ≡ values_of s → (r : Watching Origin) → IsRowOf D.honest D.history D.failures s seat.new.view r key at row) }
-        ensures refused { IfErr result (RefusesAsked D.honest D.history D.failures seat.old.view seat.new.view key at) }
+        ensures asked { AsksEngine D.Disk seat.old.view seat.new.view key at result }
+        ensures row { IfOk result (λ row. (s : Start D) → seat.old.view.first ≡ values_of s → (r : Watching Origin) → IsRowOf D.Disk s seat.new.view r key at row) }
+        ensures refused { IfErr result (RefusesAsked D.Disk seat.old.view seat.new.view key at) }
         ensures goes { result ≢ Err DiskFault → seat.new.view.given_up ≡ seat.old.view.given_up }
         ensures runs { result ≢ Err DiskFault → result ≢ Err is_stopped → seat.new.view.halted ≡ seat.old.view.halted }
         ensures last { HasAll seat.old.view → result ≢ Err DiskFault → seat.new.view.halted ≡ seat.old.view.halted }
@@ -192,9 +192,9 @@ impl<D: Disk> Node<D> {
         ensures same { result.0 ≡ record reader { seen = result.0.seen } }
         ensures seen { IsPrefix reader.seen result.0.seen }
         ensures outside { (s : Start D) → seat.old.view.first ≡ values_of s → (result.1 ≡ Err BadKey) ↔ (has_row s.certifier.current.setting.rows key ≡ false) }
-        ensures reads { Reads D.honest D.history D.failures seat.old.view seat.new.view key at (FoundShut W.knows W.shut) reader result.0 result.1 }
-        ensures row { IfOk result.1 (λ row. (s : Start D) → seat.old.view.first ≡ values_of s → IsRowOf D.honest D.history D.failures s seat.new.view result.0 key at row) }
-        ensures refused { IfErr result.1 (Refuses D.honest D.history D.failures seat.old.view seat.new.view key at (FoundShut W.knows W.shut) reader result.0) }
+        ensures reads { Reads D.Disk seat.old.view seat.new.view key at (FoundShut W.knows W.shut) reader result.0 result.1 }
+        ensures row { IfOk result.1 (λ row. (s : Start D) → seat.old.view.first ≡ values_of s → IsRowOf D.Disk s seat.new.view result.0 key at row) }
+        ensures refused { IfErr result.1 (Refuses D.Disk seat.old.view seat.new.view key at (FoundShut W.knows W.shut) reader result.0) }
         ensures goes { result.1 ≢ Err DiskFault → seat.new.view.given_up ≡ seat.old.view.given_up }
         ensures runs { result.1 ≢ Err DiskFault → result.1 ≢ Err is_stopped → seat.new.view.halted ≡ seat.old.view.halted }
         ensures last { HasAll seat.old.view → result.1 ≢ Err DiskFault → seat.new.view.halted ≡ seat.old.view.halted }

@@ -94,9 +94,9 @@ impl<'n, D: Disk, R: Wait, W: Door<Origin> + Drop> Rows for NodeRows<'n, D, R, W
 
     ghost front_gives = { IsFrontBeside (FoundShut W.knows W.shut) };
 
-    ghost read_gives = { ReadsBeside D.honest D.history D.failures (FoundShut W.knows W.shut) };
+    ghost read_gives = { ReadsBeside D.Disk (FoundShut W.knows W.shut) };
 
-    ghost are_of = { HasRowsOf D.honest D.history D.failures };
+    ghost are_of = { HasRowsOf D.Disk };
 
     ghost forgets_nothing = { λ a b key s answer p L gives of. gives.forgets p L of };
 

@@ -35,7 +35,7 @@ impl<D: Disk> Model for Seat<D> {
 
     ghost view = { λ s. s.seat };
 
-    ghost invariant = { λ s. Rests D.honest D.history D.failures s.seat.view s.allowance };
+    ghost invariant = { λ s. Rests D.Disk s.seat.view s.allowance };
 }
 
 impl<D: Disk> Node<D> {

@@ -37,11 +37,11 @@ pub fn serve_batch<D: Disk + Send, R: Threads + Wait + Sync, P: Pace + Sync>(
     workers: usize,
     pace: &P,
 ) -> (Replica<D>, Batch)
-    requires quiet { is_quiet (facts_of D.failures replica) ≡ true }
+    requires quiet { is_quiet (facts_of D.Disk replica) ≡ true }
     requires defined { IsFalse (is_nil_bytes replica.engine.checkpoint.base.uuid) }
     requires workers { (0 < workers) × (workers ≤ 64) }
     ensures stopped { (replica.stopped || is_some replica.engine.halted) ≡ true → (result.0 ≡ replica) × (result.1.receipts.items ≡ []) × (result.1.end ≡ Some is_stopped) }
-    ensures served { IsRunning replica → IsServed D.honest D.history D.failures replica items.now result.0 result.1.receipts.items result.1.end }
+    ensures served { IsRunning replica → IsServed D.Disk replica items.now result.0 result.1.receipts.items result.1.end }
     ensures paced { AreLetOn (P.lets pace.now) result.1.receipts.items }
     ensures ended { IfSome result.1.end (EndedFor replica (length items.now) result.0 result.1.receipts.items) }
 {

@@ -27,7 +27,7 @@ impl<D: Disk> Node<D> {
         item: Item,
     ) -> Result<Judged, Refusal>
         requires lock { seat.old.lock ≡ self.now }
-        requires seat { IsSeat D.honest D.history D.failures seat.old.view }
+        requires seat { IsSeat D.Disk seat.old.view }
         requires free { seat.old.view.held ≡ [] }
         requires ticket { Drew ticket seat.old.view × (ticket ≤ MAX_SEQNO) }
         requires room { ticket ≤ seat.old.view.durable + MAX_AHEAD }
@@ -52,7 +52,7 @@ impl<D: Disk> Node<D> {
     /// Puts the item that was judged last among those that wait for the engine.
     fn queue<R: Wait>(&self, rt: &R, seat: &mut LockSeat<D>, judged: Judged) -> Result<(), Refusal>
         requires lock { seat.old.lock ≡ self.now }
-        requires seat { IsSeat D.honest D.history D.failures seat.old.view }
+        requires seat { IsSeat D.Disk seat.old.view }
         requires free { seat.old.view.held ≡ [] }
         requires ticket { Drew judged.seqno seat.old.view }
         requires room { judged.seqno ≤ seat.old.view.durable + MAX_AHEAD }
@@ -108,7 +108,7 @@ impl<D: Disk> Node<D> {
         keeps: bool,
     ) -> Result<(), Refusal>
         requires lock { seat.old.lock ≡ self.now }
-        requires seat { IsSeat D.honest D.history D.failures seat.old.view }
+        requires seat { IsSeat D.Disk seat.old.view }
         requires free { seat.old.view.held ≡ [] }
         ensures lock { seat.new.lock ≡ seat.old.lock }
         ensures idle { WentIdle seat.old.view seat.new.view }
@@ -126,6 +126,7 @@ impl<D: Disk> Node<D> {
                 return Ok(());
             }
             if keeps && self.changes.lead() {
+                drop(sleep);
                 let kept = self.keep_on(rt, seat, least);
                 self.changes.resign();
                 return kept;
@@ -152,11 +153,11 @@ impl<D: Disk> Node<D> {
         keeps: bool,
     ) -> Result<(u64, Verdict), Refusal>
         requires lock { seat.old.lock ≡ self.now }
-        requires seat { IsSeat D.honest D.history D.failures seat.old.view }
+        requires seat { IsSeat D.Disk seat.old.view }
         requires free { seat.old.view.held ≡ [] }
         requires allowance { 0 < seat.old.view.allowance }
         ensures lock { seat.new.lock ≡ seat.old.lock }
-        ensures drawn { (number : ℕ) × DrewOne D.honest D.history D.failures number seat.old.view seat.new.view × IfOk result (λ given. given.0 ≡ number) }
+        ensures drawn { (number : ℕ) × DrewOne D.Disk number seat.old.view seat.new.view × IfOk result (λ given. given.0 ≡ number) }
         ensures joined { Joins item.now seat.old.view seat.new.view }
         ensures sees { SeesLegal seat.old.view seat.new.view }
         ensures receipt { IfOk result (λ given. IsGiven item.now given.0 given.1 seat.old.view seat.new.view) }

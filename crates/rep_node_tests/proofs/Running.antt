@@ -5,7 +5,7 @@ use Rattle.atomic_table.specs.Seated.{TableId}
 use Rattle.rep_types.specs.declared.judged.Judged.{Judged}
 use Rattle.rep_types.specs.declared.key.Key.{Key}
 use Rattle.rep_types.specs.declared.refusal.Refusal.{Refusal}
-use Rattle.rep_disk.specs.History.{History}
+use Rattle.rep_disk.specs.declared.disk.Disk.{Ghosts}
 use Rattle.rep_cert.specs.Holdings.{Holdings}
 use Rattle.rep_replica.specs.Replicas.{Replica}
 use Rattle.rep_session.specs.Sessions.{Progress, after_read}
@@ -108,9 +108,9 @@ module _ {D : Type 0} where
 
   -- ---- the start
 
-  pub starts : (honest : D → Type 0) (history : D → History) (failures : D → ℕ) (node : TableId) (seat : Place (Home D) Judged) (replica : Replica D) (watch more : List (Watching Origin)) (r : Watching Origin) (from whole durable : ℕ)
-      → seat.lock ≡ node → seat.view ≡ opened durable_in common_in from whole seat.view.first durable → StartsFrom honest history failures replica seat.view watch → watch ≡ more ++ r ∷ [] → Runs node seat r
-  starts honest history failures node seat replica watch more r from whole durable lock view begun is = record {
+  pub starts : (g : Ghosts D) (node : TableId) (seat : Place (Home D) Judged) (replica : Replica D) (watch more : List (Watching Origin)) (r : Watching Origin) (from whole durable : ℕ)
+      → seat.lock ≡ node → seat.view ≡ opened durable_in common_in from whole seat.view.first durable → StartsFrom g replica seat.view watch → watch ≡ more ++ r ∷ [] → Runs node seat r
+  starts g node seat replica watch more r from whole durable lock view begun is = record {
     lock = lock;
     all = let allowance : seat.view.allowance ≡ whole = ap (λ (v : View (Home D) Judged). v.allowance) view in let all : seat.view.whole ≡ whole = ap (λ (v : View (Home D) Judged). v.whole) view in let none : length seat.view.own ≡ 0 = ap (λ (v : View (Home D) Judged). length v.own) view in omega arith;
     own = own_at_first seat.view begun.start r begun.first begun.begins.start (last_too (λ (w : Watching Origin). w ≡ watching begun.start.desk.publisher) watch more r is begun.readers);
@@ -130,7 +130,7 @@ module _ {D : Type 0} where
 
   -- ---- what a session's get leaves
 
-  pub gets : (honest : D → Type 0) (history : D → History) (failures : D → ℕ) (shut : Watching Origin → Type 0) (node : TableId) (a b : Beside D) (r q : Watching Origin) (t u : Progress) (key : Key) (answer : Result (Option (List ℕ)) Refusal)
-      (o : Option (Result (Option (List ℕ)) Refusal)) → MatchOption o (ReadsBeside honest history failures shut a key t.snapshot answer b × (u ≡ after_read t key answer)) (λ x. (answer ≡ x) × (u ≡ t) × (b ≡ a)) → Runs node a.seat r → IsReaderOf b.seat.view q → Runs node b.seat q
-  gets honest history failures shut node a b r q t u key answer None given runs own = goes_on node a.seat b.seat r q runs given.0.lock given.0.idle.0.goes own
-  gets honest history failures shut node a b r q t u key answer (Some x) given runs own = same_seat node a.seat b.seat r q runs (ap (λ (z : Beside D). z.seat) given.2) own
+  pub gets : (g : Ghosts D) (shut : Watching Origin → Type 0) (node : TableId) (a b : Beside D) (r q : Watching Origin) (t u : Progress) (key : Key) (answer : Result (Option (List ℕ)) Refusal)
+      (o : Option (Result (Option (List ℕ)) Refusal)) → MatchOption o (ReadsBeside g shut a key t.snapshot answer b × (u ≡ after_read t key answer)) (λ x. (answer ≡ x) × (u ≡ t) × (b ≡ a)) → Runs node a.seat r → IsReaderOf b.seat.view q → Runs node b.seat q
+  gets g shut node a b r q t u key answer None given runs own = goes_on node a.seat b.seat r q runs given.0.lock given.0.idle.0.goes own
+  gets g shut node a b r q t u key answer (Some x) given runs own = same_seat node a.seat b.seat r q runs (ap (λ (z : Beside D). z.seat) given.2) own

@@ -4,6 +4,7 @@ use Rattle.std.proofs.lemmas.Bool.{cases_lt}
 use Rattle.std.proofs.lemmas.Bool.Decides.{nat_tests}
 use Rattle.std.proofs.lemmas.List.{length-replicate, get_or-replicate, get_or_past}
 use Rattle.rep_types.specs.declared.refusal.Refusal.{Refusal}
+use Rattle.rep_disk.specs.declared.disk.Disk.{Ghosts}
 use Rattle.rep_disk.specs.declared.disk.DiskFault.{DiskFault as Fault}
 use Rattle.rep_disk.specs.History.{History, seen, failed}
 use Rattle.rep_layout.specs.declared.super_body.SuperBody.{SuperBody}
@@ -95,10 +96,10 @@ readable l h number slot none = rw none (tt, tt)
 
 -- so it is read
 pub reads :
-    {D : Type 0} (honest : D → Type 0) (history : D → History) (l : Layout) (b : SuperBody) (number : ℕ) (slot : Slot) (bytes : List ℕ) (old : D) (answer : Result (Unit {0}) Fault) (result : Result PageBody Refusal)
-    → state_of_page b number ≡ In slot → IsOk answer → ReadsPlace honest history l (Page number slot) old answer (λ _. Some bytes) → Takes b number bytes result → ReadsPage honest history l b number old result
-reads honest history l b number slot bytes old answer result there ok read takes = λ h none.
-    taken_as (reading_of l (seen (history old))) b number slot bytes result there (sym (if_came answer _ ok (read h (readable l (history old) number slot none)))) takes
+    {D : Type 0} (g : Ghosts D) (l : Layout) (b : SuperBody) (number : ℕ) (slot : Slot) (bytes : List ℕ) (old : D) (answer : Result (Unit {0}) Fault) (result : Result PageBody Refusal)
+    → state_of_page b number ≡ In slot → IsOk answer → ReadsPlace g l (Page number slot) old answer (λ _. Some bytes) → Takes b number bytes result → ReadsPage g l b number old result
+reads g l b number slot bytes old answer result there ok read takes = λ h none.
+    taken_as (reading_of l (seen (g.history old))) b number slot bytes result there (sym (if_came answer _ ok (read h (readable l (g.history old) number slot none)))) takes
 
 -- a page that the bytes spell, in the slot in which the base has it
 pub spelled_at : (r : Reading) (b : SuperBody) (number : ℕ) (slot : Slot) (page : PageBody) → HasPage r b number page → state_of_page b number ≡ In slot → IsSpelled b.params.rows r number slot page

@@ -3,6 +3,7 @@ use Rattle.std.specs.Prelude.{◌≡◌, ◌≢◌, ◌⊎◌, ℕ, ◌≤◌, L
 use Rattle.rep_types.specs.declared.refusal.Refusal.{Refusal}
 use Rattle.rep_types.specs.declared.refusal.Refusal.TheVariants.{DiskFault, Corrupt}
 use Rattle.rep_types.specs.declared.refusal.Part.TheVariants.{Pages}
+use Rattle.rep_disk.specs.declared.disk.Disk.{Ghosts}
 use Rattle.rep_disk.specs.History.{History, seen, failed}
 use Rattle.rep_layout.specs.declared.super_body.SuperBody.{SuperBody}
 use Rattle.rep_layout.specs.declared.place.Layout.{Layout}
@@ -65,12 +66,12 @@ pub record IsPageAsSpelled (r : Reading) (b : SuperBody) (number : ℕ) (result 
 -- ---- what is given
 
 -- A page is read: on an honest device on which no write has failed since the last sync that succeeded, its bytes decide.
-abbrev pub ReadsPage : {D : Type 0} → (D → Type 0) → (D → History) → Layout → SuperBody → ℕ → D → Result PageBody Refusal → Type 0
-ReadsPage honest history l b number old result = honest old → failed (history old) ≡ [] → IsPageAsSpelled (reading_of l (seen (history old))) b number result
+abbrev pub ReadsPage : {D : Type 0} → Ghosts D → Layout → SuperBody → ℕ → D → Result PageBody Refusal → Type 0
+ReadsPage g l b number old result = g.honest old → failed (g.history old) ≡ [] → IsPageAsSpelled (reading_of l (seen (g.history old))) b number result
 
 -- So they do where the pool agrees with the device.
-abbrev pub GivesPage : {D : Type 0} → (D → Type 0) → (D → History) → Layout → SuperBody → ℕ → D → Pooled → Result PageBody Refusal → Type 0
-GivesPage honest history l b number old before result = honest old → Agrees b.params.rows l (history old) before → IsPageAsSpelled (reading_of l (seen (history old))) b number result
+abbrev pub GivesPage : {D : Type 0} → Ghosts D → Layout → SuperBody → ℕ → D → Pooled → Result PageBody Refusal → Type 0
+GivesPage g l b number old before result = g.honest old → Agrees b.params.rows l (g.history old) before → IsPageAsSpelled (reading_of l (seen (g.history old))) b number result
 
 -- the row at this place of a page that is given
 abbrev pub row_of_page : ℕ → Result PageBody Refusal → Result (Option (List ℕ)) Refusal
@@ -88,20 +89,20 @@ pub record IsRowOfPage (r : Reading) (b : SuperBody) (number index : ℕ) (resul
   pub spelled : IsPageAsSpelled r b number page
   pub row : result ≡ row_of_page index page
 
-abbrev pub GivesRow : {D : Type 0} → (D → Type 0) → (D → History) → Layout → SuperBody → ℕ → ℕ → D → Pooled → Result (Option (List ℕ)) Refusal → Type 0
-GivesRow honest history l b number index old before result = honest old → Agrees b.params.rows l (history old) before → IsRowOfPage (reading_of l (seen (history old))) b number index result
+abbrev pub GivesRow : {D : Type 0} → Ghosts D → Layout → SuperBody → ℕ → ℕ → D → Pooled → Result (Option (List ℕ)) Refusal → Type 0
+GivesRow g l b number index old before result = g.honest old → Agrees b.params.rows l (g.history old) before → IsRowOfPage (reading_of l (seen (g.history old))) b number index result
 
 -- The pool agrees with the device, if that is honest.
-abbrev pub IsPooled : {D : Type 0} → (D → Type 0) → (D → History) → List ℕ → Layout → D → Pooled → Type 0
-IsPooled honest history rows l disk pages = honest disk → Agrees rows l (history disk) pages
+abbrev pub IsPooled : {D : Type 0} → Ghosts D → List ℕ → Layout → D → Pooled → Type 0
+IsPooled g rows l disk pages = g.honest disk → Agrees rows l (g.history disk) pages
 
 -- It does so afterwards, if it did.
-abbrev pub GoesOn : {D : Type 0} → (D → Type 0) → (D → History) → List ℕ → Layout → D → D → Pooled → Pooled → Type 0
-GoesOn honest history rows l old new before after = IsPooled honest history rows l old before → IsPooled honest history rows l new after
+abbrev pub GoesOn : {D : Type 0} → Ghosts D → List ℕ → Layout → D → D → Pooled → Pooled → Type 0
+GoesOn g rows l old new before after = IsPooled g rows l old before → IsPooled g rows l new after
 
 -- So it does unless the device failed.
-abbrev pub GoesOnIf : {D T : Type 0} → (D → Type 0) → (D → History) → List ℕ → Layout → D → D → Pooled → Pooled → Result T Refusal → Type 0
-GoesOnIf honest history rows l old new before after result = result ≢ Err DiskFault → GoesOn honest history rows l old new before after
+abbrev pub GoesOnIf : {D T : Type 0} → Ghosts D → List ℕ → Layout → D → D → Pooled → Pooled → Result T Refusal → Type 0
+GoesOnIf g rows l old new before after result = result ≢ Err DiskFault → GoesOn g rows l old new before after
 
 -- Some page of the slot was read, and is kept, if there was room.
 abbrev pub IsKeptAnew : ℕ → Slot → Pooled → Pooled → Type 0

@@ -7,7 +7,7 @@ ghost use Rattle.std.specs.Option.{option_copied};
 ghost use Rattle.rep_types.specs.declared.refusal.Refusal.{Refusal as Refused};
 ghost use Rattle.rep_types.specs.declared.refusal.Refusal.TheVariants.{DiskFault, Corrupt};
 ghost use Rattle.rep_types.specs.declared.refusal.Part.TheVariants.{Pages};
-ghost use Rattle.rep_disk.specs.Calls.{IsCall};
+ghost use Rattle.rep_disk.specs.Devices.{Calls, SameHistory};
 ghost use Rattle.rep_layout.specs.Places.{layout_of as places_of};
 ghost use Rattle.rep_layout.specs.Supers.{IsSuper};
 ghost use Rattle.rep_layout.specs.declared.place.Slot.{Slot as SlotOf};
@@ -78,11 +78,11 @@ fn read_page<D: Disk>(
     requires super_body { IsSuper base.now }
     requires layout { layout_of cells.old ≡ places_of base.now.params }
     requires there { state_of_page base.now number ≡ In slot }
-    ensures call { IsCall D.size D.failures D.honest (disk_of cells.old) (disk_of cells.new) (fault_of result) }
+    ensures call { Calls D.Disk (disk_of cells.old) (disk_of cells.new) (fault_of result) }
     ensures layout { layout_of cells.new ≡ layout_of cells.old }
-    ensures same { D.honest (disk_of cells.old) → D.history (disk_of cells.new) ≡ D.history (disk_of cells.old) }
+    ensures same { SameHistory D.Disk (disk_of cells.old) (disk_of cells.new) }
     ensures number { IfOk result (λ page. page.number ≡ number) }
-    ensures reads { ReadsPage D.honest D.history (layout_of cells.old) base.now number (disk_of cells.old) result }
+    ensures reads { ReadsPage D.Disk (layout_of cells.old) base.now number (disk_of cells.old) result }
     ensures refused { IfErr result (λ e. (e ≡ DiskFault) ⊎ (e ≡ Corrupt Pages)) }
 {
     let mut body = [0; PAGE_BODY];
@@ -214,17 +214,17 @@ impl Pool {
     ) -> Result<Option<Value>, Refusal>
         requires super_body { IsSuper base.now }
         requires layout { layout_of cells.old ≡ places_of base.now.params }
-        ensures call { IsCall D.size D.failures D.honest (disk_of cells.old) (disk_of cells.new) (fault_of result) }
+        ensures call { Calls D.Disk (disk_of cells.old) (disk_of cells.new) (fault_of result) }
         ensures layout { layout_of cells.new ≡ layout_of cells.old }
-        ensures same { D.honest (disk_of cells.old) → D.history (disk_of cells.new) ≡ D.history (disk_of cells.old) }
+        ensures same { SameHistory D.Disk (disk_of cells.old) (disk_of cells.new) }
         // Where the device is not asked, and what the pool then keeps.
         ensures nowhere { state_of_page base.now place.page ≡ Nowhere → (disk_of cells.new ≡ disk_of cells.old) × (self.new ≡ self.old) }
         ensures hit { (slot : SlotOf) → state_of_page base.now place.page ≡ In slot → IfSome (found place.page slot self.old) (λ _. (disk_of cells.new ≡ disk_of cells.old) × OnOk result (self.new ≡ used place.page self.old)) }
         ensures read { (slot : SlotOf) → state_of_page base.now place.page ≡ In slot → found place.page slot self.old ≡ None → OnOk result (IsKeptAnew place.page slot self.old self.new) }
         ensures unchanged { OnErr result (self.new ≡ self.old) }
         // The bytes decide: those of the slot, whether they were kept or not.
-        ensures row { GivesRow D.honest D.history (layout_of cells.old) base.now place.page place.index (disk_of cells.old) self.old result }
-        ensures agrees { GoesOn D.honest D.history base.now.params.rows (layout_of cells.old) (disk_of cells.old) (disk_of cells.new) self.old self.new }
+        ensures row { GivesRow D.Disk (layout_of cells.old) base.now place.page place.index (disk_of cells.old) self.old result }
+        ensures agrees { GoesOn D.Disk base.now.params.rows (layout_of cells.old) (disk_of cells.old) (disk_of cells.new) self.old self.new }
         ensures refused { IfErr result (λ e. (e ≡ DiskFault) ⊎ (e ≡ Corrupt Pages)) }
     {
         pages_are_told();
@@ -253,9 +253,9 @@ impl Pool {
     ) -> Result<Page, Refusal>
         requires super_body { IsSuper base.now }
         requires layout { layout_of cells.old ≡ places_of base.now.params }
-        ensures call { IsCall D.size D.failures D.honest (disk_of cells.old) (disk_of cells.new) (fault_of result) }
+        ensures call { Calls D.Disk (disk_of cells.old) (disk_of cells.new) (fault_of result) }
         ensures layout { layout_of cells.new ≡ layout_of cells.old }
-        ensures same { D.honest (disk_of cells.old) → D.history (disk_of cells.new) ≡ D.history (disk_of cells.old) }
+        ensures same { SameHistory D.Disk (disk_of cells.old) (disk_of cells.new) }
         // Where the device is not asked, and what the pool then keeps.
         ensures nowhere { state_of_page base.now number ≡ Nowhere → disk_of cells.new ≡ disk_of cells.old }
         ensures hit { (slot : SlotOf) → state_of_page base.now number ≡ In slot → IfSome (found number slot self.old) (λ _. disk_of cells.new ≡ disk_of cells.old) }
@@ -263,8 +263,8 @@ impl Pool {
         ensures free { (slot : SlotOf) → IsFree (Place.Page number slot) self.new }
         // The bytes decide: those of the slot, whether they were kept or not.
         ensures number { IfOk result (λ page. page.number ≡ number) }
-        ensures page { GivesPage D.honest D.history (layout_of cells.old) base.now number (disk_of cells.old) self.old result }
-        ensures agrees { GoesOn D.honest D.history base.now.params.rows (layout_of cells.old) (disk_of cells.old) (disk_of cells.new) self.old self.new }
+        ensures page { GivesPage D.Disk (layout_of cells.old) base.now number (disk_of cells.old) self.old result }
+        ensures agrees { GoesOn D.Disk base.now.params.rows (layout_of cells.old) (disk_of cells.old) (disk_of cells.new) self.old self.new }
         ensures refused { IfErr result (λ e. (e ≡ DiskFault) ⊎ (e ≡ Corrupt Pages)) }
     {
         pages_are_told();

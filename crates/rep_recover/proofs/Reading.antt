@@ -1,7 +1,8 @@
 -- Calls that write nothing, one after another.
-use Rattle.std.proofs.Common.{◌≡◌, ℕ, ◌+◌, ◌<◌, ◌≤◌, ◌⊎◌, inl, inr, false, Result, Ok, Err, OnOk, refl, ap, subst, ◌∙◌, arith}
+use Rattle.std.proofs.Common.{◌≡◌, ℕ, ◌+◌, ◌<◌, ◌≤◌, ◌⊎◌, inl, inr, false, Result, Ok, Err, OnOk, ap, subst, ◌∙◌, arith}
 use Rattle.std.specs.Result.{is_err}
 use Rattle.rep_types.specs.declared.refusal.Refusal.{Refusal}
+use Rattle.rep_disk.specs.declared.disk.Disk.{Ghosts}
 use Rattle.rep_disk.specs.History.{History}
 use Rattle.rep_log.specs.Moves.{fault_of}
 use Rattle.std.proofs.lemmas.Bool.{cases_lt}
@@ -13,22 +14,18 @@ use Rattle.rep_layout.specs.declared.place.Slot.{Slot}
 use Rattle.rep_cells.specs.Readings.{reading_of}
 use Rattle.rep_pages.specs.Slots.{state_of_page}
 use Rattle.rep_recover.specs.Looking.{Looks, HasPage, HasFirstPages}
-use Rattle.rep_recover.proofs.Going.{no_call, calls}
+use Rattle.rep_recover.proofs.Going.{calls}
 
 -- what holds where a call succeeds, where it is no failure
 pub at_no_err : {T E : Type 0} (P : Type 0) (r : Result T E) → is_err r ≡ false → OnOk r P → P
 at_no_err P (Ok x) e h = h
 at_no_err P (Err x) e h = absurd cc
 
-module _ {D : Type 0} (size failures : D → ℕ) (honest : D → Type 0) (history : D → History) where
-  pub looks_nowhere : (disk : D) → Looks {T = Unit {0}} size failures honest history disk disk (Ok tt)
-  looks_nowhere disk = record { call = no_call size failures honest disk; same = λ h. refl }
-
+module _ {D : Type 0} (g : Ghosts D) where
   -- one behind another that succeeded
-  pub looks_on :
-      {T U : Type 0} (a b d : D) (x : T) (r : Result U Refusal) → Looks {T = T} size failures honest history a b (Ok x) → Looks size failures honest history b d r → Looks size failures honest history a d r
+  pub looks_on : {T U : Type 0} (a b d : D) (x : T) (r : Result U Refusal) → Looks {T = T} g a b (Ok x) → Looks g b d r → Looks g a d r
   looks_on a b d x r first second = record {
-    call = calls size failures honest a b d tt (fault_of r) first.call second.call;
+    call = calls g a b d tt (fault_of r) first.call second.call;
     same = λ h. second.same (first.call.stays_honest h) ∙ first.same h;
   }
 

@@ -5,6 +5,7 @@ use Rattle.std.proofs.lemmas.Slice.Eq.{bytes_eq-Decides}
 use Rattle.uuid.specs.Parts.{is_nil_bytes, zero_bytes}
 use Rattle.rep_types.specs.declared.judged.Judged.{Judged}
 use Rattle.rep_types.specs.Settings.{Setting, is_setting}
+use Rattle.rep_disk.specs.declared.disk.Disk.{Ghosts}
 use Rattle.rep_disk.specs.History.{History, seen, stable}
 use Rattle.rep_layout.specs.declared.super_body.SuperBody.{SuperBody}
 use Rattle.rep_layout.specs.declared.place.Layout.{Layout}
@@ -118,8 +119,8 @@ module _ (size : ℕ) (b : SuperBody) (l : Layout) (log : Log) (items : List Jud
 
 -- ---- on an honest device
 
-module _ {D : Type 0} (honest : D → Type 0) (history : D → History) (failures : D → ℕ) (disk : D) (old : History) (size : ℕ) (b : SuperBody) (both : Bool) (log : Log) (items : List Judged) (h : Holding) (kept : Kept)
-    (o : IsOpened size b (layout_of b.params) log items h kept) (re : Recovers old (history disk) b both log items h kept)
+module _ {D : Type 0} (g : Ghosts D) (disk : D) (old : History) (size : ℕ) (b : SuperBody) (both : Bool) (log : Log) (items : List Judged) (h : Holding) (kept : Kept)
+    (o : IsOpened size b (layout_of b.params) log items h kept) (re : Recovers old (g.history disk) b both log items h kept)
     (base_found : TheBaseIsFound) where
   abbrev m : Meaning
   m = re.meaning
@@ -131,7 +132,7 @@ module _ {D : Type 0} (honest : D → Type 0) (history : D → History) (failure
   e = engine_of disk (layout_of b.params) b both log kept
 
   abbrev n : Node
-  n = node_of failures e (stands_at log) m
+  n = node_of g e (stands_at log) m
 
   -- the numbers of the meaning are the superblock's and the log's
   position : m.base.position ≡ b.position
@@ -140,7 +141,7 @@ module _ {D : Type 0} (honest : D → Type 0) (history : D → History) (failure
   durable : m.base.position + length m.tail ≡ durable_of log
   durable = omega (arith, position, ap length re.tail, o.behind.scanned.seqno)
 
-  facts : n.facts ≡ facts_of failures e
+  facts : n.facts ≡ facts_of g e
   facts =
       ap (λ (x : List ℕ). record n.facts { uuid = x }) re.means.uuid
       ∙ ap (λ (x : Setting). record n.facts { uuid = b.uuid; setting = x }) re.means.setting
@@ -148,7 +149,7 @@ module _ {D : Type 0} (honest : D → Type 0) (history : D → History) (failure
       ∙ ap (λ (x : ℕ). record n.facts { uuid = b.uuid; setting = b.params; base = b.position; durable = x }) durable
       ∙ ap (λ (x : Phase). record n.facts { uuid = b.uuid; setting = b.params; base = b.position; durable = durable_of log; phase = x }) (sym o.behind.scanned.phase)
 
-  is_opening : IsOpening (facts_of failures e) m
+  is_opening : IsOpening (facts_of g e) m
   is_opening = record {
     allowed = subst (λ (p : Setting). IsTrue (is_setting p)) (sym re.means.setting) o.is_super.is_super.setting;
     undefined = λ nil. omega (arith, durable, none_there size b (layout_of b.params) log items h kept o (ap is_nil_bytes (sym re.means.uuid) ∙ nil));
@@ -181,10 +182,10 @@ module _ {D : Type 0} (honest : D → Type 0) (history : D → History) (failure
     undefined = none_held;
   }
 
-  stands_now : StandsAs n (length (stable (history disk))) c log re.finds.blocks [] (found (layout_of b.params) (seen old))
+  stands_now : StandsAs n (length (stable (g.history disk))) c log re.finds.blocks [] (found (layout_of b.params) (seen old))
   stands_now = subst (λ (x : History). StandsAs n (length (stable x)) c log re.finds.blocks [] (found (layout_of b.params) (seen old))) (sym re.synced) stands
 
-  runs : Runs history n e
+  runs : Runs g n e
   runs = record {
     states = found (layout_of b.params) (seen old);
     assigns = re.states;
@@ -204,9 +205,9 @@ module _ {D : Type 0} (honest : D → Type 0) (history : D → History) (failure
       ∙ ap (λ (base : ℕ). (reached b.params m.base (take (k - base) m.tail)).kept) (sym position)
       ∙ ap (λ (p : Setting). (reached p m.base (take (k - m.base.position) m.tail)).kept) (sym re.means.setting)
 
-  pub opens_node : honest disk → OpeningsOpenTheOrder → NodesLeaveTheirFronts → ImagesReadAsAllowed → OpensNode honest history failures old e h
+  pub opens_node : g.honest disk → OpeningsOpenTheOrder → NodesLeaveTheirFronts → ImagesReadAsAllowed → OpensNode g old e h
   opens_node is_honest opens fronts allowed =
-      let node = opens (facts_of failures e) (stands_at log) m is_opening in
+      let node = opens (facts_of g e) (stands_at log) m is_opening in
       record {
         synced = re.synced;
         meaning = m;
@@ -223,7 +224,7 @@ module _ {D : Type 0} (honest : D → Type 0) (history : D → History) (failure
           images = λ image here.
               fronts image n c log re.finds.blocks [] (found (layout_of b.params) (seen old)) node.node
               (subst (λ (k : ℕ). StandsAs n k c log re.finds.blocks [] (found (layout_of b.params) (seen old))) (sym here.sized) stands_now)
-              (allowed (layout_of b.params) (history disk) (found (layout_of b.params) (seen old)) image re.states here);
+              (allowed (layout_of b.params) (g.history disk) (found (layout_of b.params) (seen old)) image re.states here);
         };
         windows = windows;
       }

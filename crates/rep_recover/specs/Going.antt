@@ -1,8 +1,9 @@
 -- What several calls of a device come to.
 use Rattle.std.specs.Prelude.{◌≡◌, ℕ, ◌+◌, ◌*◌, ◌≤◌, get_or, Result, OnOk}
+use Rattle.rep_disk.specs.declared.disk.Disk.{Ghosts}
 use Rattle.rep_disk.specs.declared.disk.DiskFault.{DiskFault}
 use Rattle.rep_disk.specs.History.{History, seen}
-use Rattle.rep_disk.specs.Calls.{IsCall}
+use Rattle.rep_disk.specs.Devices.{Calls}
 use Rattle.rep_layout.specs.declared.place.TheConstants.{GATE, LOG_BODY, LOG}
 use Rattle.rep_layout.specs.declared.place.Layout.{Layout}
 use Rattle.rep_cells.specs.States.{States}
@@ -18,7 +19,7 @@ StaysFrom from old new = (byte : ℕ) → from ≤ byte → get_or (seen new) by
 
 -- Calls of a device in this layout, which touch no page and no byte behind the pages: on an honest device they lead from states with
 -- P to states with Q, where they succeed.
-pub record Goes {D T : Type 0} (size failures : D → ℕ) (honest : D → Type 0) (history : D → History) (l : Layout) (P Q : States → Type 0) (old new : D) (result : Result T DiskFault) : Type 0 where
-  pub call : IsCall size failures honest old new result
-  pub stays : honest old → StaysFrom (pages_at l) (history old) (history new)
-  pub leads : honest old → (s : States) → Assigns l (history old) s → P s → OnOk result ((t : States) × Assigns l (history new) t × Q t)
+pub record Goes {D T : Type 0} (g : Ghosts D) (l : Layout) (P Q : States → Type 0) (old new : D) (result : Result T DiskFault) : Type 0 where
+  pub call : Calls g old new result
+  pub stays : g.honest old → StaysFrom (pages_at l) (g.history old) (g.history new)
+  pub leads : g.honest old → (s : States) → Assigns l (g.history old) s → P s → OnOk result ((t : States) × Assigns l (g.history new) t × Q t)

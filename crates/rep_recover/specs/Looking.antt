@@ -6,9 +6,9 @@ use Rattle.rep_types.specs.declared.refusal.Part.TheVariants.{Superblock}
 use Rattle.rep_types.specs.declared.refusal.Refusal.{Refusal}
 use Rattle.rep_types.specs.declared.refusal.Refusal.TheVariants.{OutOfMemory, DiskFault, NotFormatted, Corrupt}
 use Rattle.rep_types.specs.Windows.{Window as WindowOf}
+use Rattle.rep_disk.specs.declared.disk.Disk.{Ghosts}
 use Rattle.rep_disk.specs.declared.disk.DiskFault.{DiskFault as Fault}
-use Rattle.rep_disk.specs.History.{History}
-use Rattle.rep_disk.specs.Calls.{IsCall}
+use Rattle.rep_disk.specs.Devices.{Calls, SameHistory}
 use Rattle.rep_layout.specs.declared.super_body.SuperBody.{SuperBody}
 use Rattle.rep_layout.specs.declared.page_state.PageState.TheVariants.{In}
 use Rattle.rep_layout.specs.declared.place.Side.{Side}
@@ -28,9 +28,9 @@ use Rattle.rep_image.specs.Bases.{other, IsSuperAt, IsChosen}
 use Rattle.rep_recover.specs.Judging.{bare}
 
 -- Calls that write nothing: on an honest device nothing happened.
-pub record Looks {D T : Type 0} (size failures : D → ℕ) (honest : D → Type 0) (history : D → History) (old new : D) (result : Result T Refusal) : Type 0 where
-  pub call : IsCall size failures honest old new (fault_of result)
-  pub same : honest old → history new ≡ history old
+pub record Looks {D T : Type 0} (g : Ghosts D) (old new : D) (result : Result T Refusal) : Type 0 where
+  pub call : Calls g old new (fault_of result)
+  pub same : SameHistory g old new
 
 -- a refusal as what the device answered
 abbrev pub fault_in : Refusal → Result (Unit {0}) Fault

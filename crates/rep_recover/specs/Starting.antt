@@ -2,6 +2,7 @@
 use Rattle.std.specs.Prelude.{◌≡◌, ◌⊎◌, ℕ, ◌≤◌, Bool, false, is_some, List, [], None, IsTrue}
 use Rattle.uuid.specs.Parts.{is_nil_bytes}
 use Rattle.rep_types.specs.declared.judged.Judged.{Judged}
+use Rattle.rep_disk.specs.declared.disk.Disk.{Ghosts}
 use Rattle.rep_disk.specs.History.{History, Synced, seen}
 use Rattle.rep_layout.specs.declared.super_body.SuperBody.{SuperBody}
 use Rattle.rep_layout.specs.declared.place.Layout.{Layout}
@@ -46,18 +47,18 @@ pub record IsStart {D : Type 0} (size : ℕ) (e : Engine D) (h : Holding) : Type
   pub found : IsOpened size e.checkpoint.base e.layout e.log items h e.kept
 
 -- the node that an engine is, where this is what its device's bytes mean
-abbrev pub node_of : {D : Type 0} → (D → ℕ) → Engine D → (ℕ → Bool) → Meaning → Node
-node_of failures e gates meaning = opened (facts_of failures e) gates meaning
+abbrev pub node_of : {D : Type 0} → Ghosts D → Engine D → (ℕ → Bool) → Meaning → Node
+node_of g e gates meaning = opened (facts_of g e) gates meaning
 
 -- On an honest device: it was synced, and nothing else; by the engine's superblock its bytes mean something, and what opening makes of
 -- that is a node, of the order that the bytes stand for; the engine stands for that node, and the certifier's windows are the node's.
-pub record OpensNode {D : Type 0} (honest : D → Type 0) (history : D → History) (failures : D → ℕ) (old : History) (e : Engine D) (h : Holding) : Type 0 where
-  pub synced : history e.disk ≡ Synced old
+pub record OpensNode {D : Type 0} (g : Ghosts D) (old : History) (e : Engine D) (h : Holding) : Type 0 where
+  pub synced : g.history e.disk ≡ Synced old
   pub meaning : Meaning
   pub means : Means (seen old) meaning
   pub super_is : means.super ≡ e.checkpoint.base
   pub other_is : e.checkpoint.stage ≡ stage_found (is_some (reading_of e.layout (seen old) (Super (spare_side e.checkpoint.base))))
   pub gates : ℕ → Bool
-  pub opens : OpensTheOrder (facts_of failures e) gates meaning
-  pub holds : Holds honest history failures (node_of failures e gates meaning) e
-  pub windows : (k : ℕ) → IsAskable h k → window_of h k ≡ window_at (node_of failures e gates meaning) k
+  pub opens : OpensTheOrder (facts_of g e) gates meaning
+  pub holds : Holds g (node_of g e gates meaning) e
+  pub windows : (k : ℕ) → IsAskable h k → window_of h k ≡ window_at (node_of g e gates meaning) k

@@ -2,7 +2,7 @@
 
 ghost use Rattle.std.specs.Prelude.{◌≡◌, ◌<◌, [], Ok, Err, IfOk, IfErr, MatchResult};
 ghost use Rattle.rep_disk.specs.History.{seen};
-ghost use Rattle.rep_disk.specs.Calls.{IsCall};
+ghost use Rattle.rep_disk.specs.Devices.{Calls};
 ghost use Rattle.rep_layout.specs.Places.{need_of};
 ghost use Rattle.rep_cells.specs.Device.{disk_of, layout_of};
 ghost use Rattle.rep_pool.specs.BasePages.{IsPooled};
@@ -27,7 +27,7 @@ impl<D: Disk> Opened<D> {
     /// The engine on what was found, with the checkpoint at the base, and the certifier beside it. The items go:
     /// log, versions and certifier have what is needed of them.
     fn start(self, alloc: Global, pool: Pool) -> (Engine<D>, Certifier)
-        requires pool { IsPooled D.honest D.history self.superblock.params.rows (layout_of self.cells) (disk_of self.cells) pool }
+        requires pool { IsPooled D.Disk self.superblock.params.rows (layout_of self.cells) (disk_of self.cells) pool }
         requires engine { IsEngine (layout_of self.cells) (found_at self.superblock self.both) self.log self.versions [] }
         ensures engine { result.0 ≡ engine_of (disk_of self.cells) (layout_of self.cells) self.superblock self.both self.log self.versions }
         ensures certifier { result.1 ≡ self.certifier }
@@ -67,11 +67,11 @@ impl<D: Disk> Opened<D> {
 /// `Corrupt` of the first of superblock, window, log and pages that is not of the form; `OutOfMemory`; and
 /// `DiskFault` where the device failed.
 pub fn open_disk<D: Disk>(alloc: Global, disk: D) -> Result<(Engine<D>, Certifier), (D, Refusal)>
-    ensures call { MatchResult result (λ x. IsCall {T = Unit {0}} D.size D.failures D.honest disk x.0.disk (Ok tt)) (λ x. IsCall D.size D.failures D.honest disk x.0 (fault_in x.1)) }
+    ensures call { MatchResult result (λ x. Calls {T = Unit {0}} D.Disk disk x.0.disk (Ok tt)) (λ x. Calls D.Disk disk x.0 (fault_in x.1)) }
     ensures small { D.size disk < need_of without_log → result ≡ Err (disk, Refusal.NotFormatted) }
     ensures unwritten { D.honest disk → IfErr result (λ x. IsUnwritten (D.history disk) (D.history x.0)) }
     ensures opened { IfOk result (λ x. IsStart (D.size disk) x.0 x.1.current) }
-    ensures recovers { D.honest disk → IfOk result (λ x. OpensNode D.honest D.history D.failures (D.history disk) x.0 x.1.current) }
+    ensures recovers { D.honest disk → IfOk result (λ x. OpensNode D.Disk (D.history disk) x.0 x.1.current) }
     ensures refused { IfErr result (λ x. RefusesToOpen (D.honest disk) (seen (D.history disk)) x.1) }
 {
     images_read_as_allowed();

@@ -3,7 +3,7 @@
 ghost use Rattle.std.specs.Prelude.{◌≡◌, ◌<◌, ◌≤◌, [], Err, IfErr, OnOk, replicate, length, ℕ, List};
 ghost use Rattle.rep_types.specs.Settings.{pages_of};
 ghost use Rattle.rep_forms.specs.Forms.{IsPart};
-ghost use Rattle.rep_disk.specs.Calls.{IsCall};
+ghost use Rattle.rep_disk.specs.Devices.{Calls};
 ghost use Rattle.rep_layout.specs.Places.{layout_of as layout_with, need_of};
 ghost use Rattle.rep_layout.specs.Supers.{IsSuper, super_bytes};
 ghost use Rattle.rep_layout.specs.Windows.{IsWindowBody, window_bytes};
@@ -58,7 +58,7 @@ fn first_super(params: &Params, uuid: Option<Uuid>) -> SuperBody
 /// Writes a closed gate behind both superblocks.
 fn close_supers<D: Disk>(cells: &mut Cells<D>) -> Result<(), DiskFault>
     ensures layout { layout_of cells.new ≡ layout_of cells.old }
-    ensures goes { Goes D.size D.failures D.honest D.history (layout_of cells.old) (λ _. Unit {0}) (WillClose 0) (disk_of cells.old) (disk_of cells.new) result }
+    ensures goes { Goes D.Disk (layout_of cells.old) (λ _. Unit {0}) (WillClose 0) (disk_of cells.old) (disk_of cells.new) result }
 {
     syncs_narrow();
     cells.close_gate(Place::Super(Side::A))?;
@@ -68,7 +68,7 @@ fn close_supers<D: Disk>(cells: &mut Cells<D>) -> Result<(), DiskFault>
 /// Writes a closed gate behind each cell of the log.
 fn close_log<D: Disk>(cells: &mut Cells<D>) -> Result<(), DiskFault>
     ensures layout { layout_of cells.new ≡ layout_of cells.old }
-    ensures goes { Goes D.size D.failures D.honest D.history (layout_of cells.old) (WillClose 0) (WillClose (layout_of cells.old).cells) (disk_of cells.old) (disk_of cells.new) result }
+    ensures goes { Goes D.Disk (layout_of cells.old) (WillClose 0) (WillClose (layout_of cells.old).cells) (disk_of cells.old) (disk_of cells.new) result }
 {
     syncs_narrow();
     let layout = cells.layout();
@@ -81,7 +81,7 @@ fn close_log<D: Disk>(cells: &mut Cells<D>) -> Result<(), DiskFault>
 /// Closes every gate.
 fn close_all<D: Disk>(cells: &mut Cells<D>) -> Result<(), DiskFault>
     ensures layout { layout_of cells.new ≡ layout_of cells.old }
-    ensures goes { Goes D.size D.failures D.honest D.history (layout_of cells.old) (λ _. Unit {0}) (AreClosed (layout_of cells.old).cells) (disk_of cells.old) (disk_of cells.new) result }
+    ensures goes { Goes D.Disk (layout_of cells.old) (λ _. Unit {0}) (AreClosed (layout_of cells.old).cells) (disk_of cells.old) (disk_of cells.new) result }
 {
     close_supers(cells)?;
     close_log(cells)?;
@@ -97,7 +97,7 @@ fn put_base<D: Disk>(
     requires superblock { length superblock.now ≡ SUPER_BODY }
     requires window { length window.now ≡ WINDOW_BODY }
     ensures layout { layout_of cells.new ≡ layout_of cells.old }
-    ensures goes { Goes D.size D.failures D.honest D.history (layout_of cells.old) (AreClosed (layout_of cells.old).cells) (HasFirst (layout_of cells.old).cells (Filled superblock.now) (Stable window.now)) (disk_of cells.old) (disk_of cells.new) result }
+    ensures goes { Goes D.Disk (layout_of cells.old) (AreClosed (layout_of cells.old).cells) (HasFirst (layout_of cells.old).cells (Filled superblock.now) (Stable window.now)) (disk_of cells.old) (disk_of cells.new) result }
 {
     cells.fill(Place::Super(Side::A), superblock)?;
     cells.write_area(Place::Window(Side::A), window)?;
@@ -107,7 +107,7 @@ fn put_base<D: Disk>(
 /// Opens the first superblock's gate.
 fn open_base<D: Disk>(cells: &mut Cells<D>) -> Result<(), DiskFault>
     ensures layout { layout_of cells.new ≡ layout_of cells.old }
-    ensures goes { (superblock window : List ℕ) → Goes D.size D.failures D.honest D.history (layout_of cells.old) (HasFirst (layout_of cells.old).cells (Filled superblock) (Stable window)) (HasFirst (layout_of cells.old).cells (Opened superblock) (Stable window)) (disk_of cells.old) (disk_of cells.new) result }
+    ensures goes { (superblock window : List ℕ) → Goes D.Disk (layout_of cells.old) (HasFirst (layout_of cells.old).cells (Filled superblock) (Stable window)) (HasFirst (layout_of cells.old).cells (Opened superblock) (Stable window)) (disk_of cells.old) (disk_of cells.new) result }
 {
     cells.open_gate(Place::Super(Side::A))?;
     cells.sync()
@@ -122,7 +122,7 @@ fn format_cells<D: Disk>(
     requires superblock { length superblock.now ≡ SUPER_BODY }
     requires window { length window.now ≡ WINDOW_BODY }
     ensures layout { layout_of cells.new ≡ layout_of cells.old }
-    ensures goes { Goes D.size D.failures D.honest D.history (layout_of cells.old) (λ _. Unit {0}) (HasFirst (layout_of cells.old).cells (Opened superblock.now) (Stable window.now)) (disk_of cells.old) (disk_of cells.new) result }
+    ensures goes { Goes D.Disk (layout_of cells.old) (λ _. Unit {0}) (HasFirst (layout_of cells.old).cells (Opened superblock.now) (Stable window.now)) (disk_of cells.old) (disk_of cells.new) result }
 {
     close_all(cells)?;
     put_base(cells, superblock, window)?;
@@ -185,7 +185,7 @@ pub fn format_disk<D: Disk>(
     params: &Params,
     uuid: Option<Uuid>,
 ) -> (D, Result<(), Refusal>)
-    ensures call { IsCall D.size D.failures D.honest disk result.0 (fault_of result.1) }
+    ensures call { Calls D.Disk disk result.0 (fault_of result.1) }
     ensures small { D.size disk < need_of (layout_with params.now) → (result.1 ≡ Err (Refusal.TooSmall (need_of (layout_with params.now)))) × (result.0 ≡ disk) }
     ensures fault { need_of (layout_with params.now) ≤ D.size disk → IfErr result.1 (λ e. e ≡ Refusal.DiskFault) }
     ensures stays { D.honest disk → StaysFrom (pages_at (layout_with params.now)) (D.history disk) (D.history result.0) }

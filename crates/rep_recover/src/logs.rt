@@ -31,7 +31,7 @@ pub(crate) fn find_log<D: Disk>(
     requires form { IsSuper superblock.now }
     requires layout { layout_of cells.old ≡ layout_with superblock.now.params }
     ensures layout { layout_of cells.new ≡ layout_of cells.old }
-    ensures looks { Looks D.size D.failures D.honest D.history (disk_of cells.old) (disk_of cells.new) result }
+    ensures looks { Looks D.Disk (disk_of cells.old) (disk_of cells.new) result }
     ensures scanned { IfOk result (λ x. IsScanned (layout_of cells.old) superblock.now.start (superblock.now.position + 1) x.0 x.1.items) }
     ensures undefined { IfOk result (λ x. IsNil superblock.now.uuid → x.1.items ≡ []) }
     ensures found { D.honest (disk_of cells.old) → failed (D.history (disk_of cells.old)) ≡ [] → IfOk result (λ x. Finds (layout_of cells.old) (seen (D.history (disk_of cells.old))) superblock.now.start (superblock.now.position + 1) x.0 x.1.items) }

@@ -3,7 +3,7 @@
 ghost use Rattle.std.specs.Prelude.{◌≡◌, ◌≤◌, ◌<◌, [], Ok, Err, OnOk, IfOk, IfErr, MatchResult};
 ghost use Rattle.rep_types.specs.declared.refusal.Part.{Part as PartOf};
 ghost use Rattle.rep_disk.specs.History.{Synced, seen, failed};
-ghost use Rattle.rep_disk.specs.Calls.{IsCall};
+ghost use Rattle.rep_disk.specs.Devices.{Calls};
 ghost use Rattle.rep_layout.specs.Places.{side_of, layout_of as layout_with, need_of};
 ghost use Rattle.rep_layout.specs.Supers.{IsSuper};
 ghost use Rattle.rep_cells.specs.Device.{disk_of, layout_of};
@@ -47,7 +47,7 @@ fn read_behind<D: Disk>(
     requires form { IsSuper superblock.now }
     requires layout { layout_of cells.old ≡ layout_with superblock.now.params }
     ensures layout { layout_of cells.new ≡ layout_of cells.old }
-    ensures looks { Looks D.size D.failures D.honest D.history (disk_of cells.old) (disk_of cells.new) result }
+    ensures looks { Looks D.Disk (disk_of cells.old) (disk_of cells.new) result }
     ensures any { IfOk result (λ x. IsBehind superblock.now x.log x.items.items x.certifier.current x.versions) }
     ensures found { D.honest (disk_of cells.old) → failed (D.history (disk_of cells.old)) ≡ [] → IfOk result (λ x. StandsBehind (seen (D.history (disk_of cells.old))) superblock.now x.log x.items.items x.certifier.current x.versions) }
     ensures refused { IfErr result (RefusesBehind (λ part. D.honest (disk_of cells.old) → failed (D.history (disk_of cells.old)) ≡ [] → FailsBehind part (reading_of (layout_with superblock.now.params) (seen (D.history (disk_of cells.old)))) superblock.now)) }
@@ -90,7 +90,7 @@ pub struct Opened<D: Disk> {
 /// open too.
 fn find_synced<D: Disk>(cells: &mut Cells<D>) -> Result<(SuperBody, bool), Refusal>
     ensures layout { layout_of cells.new ≡ layout_of cells.old }
-    ensures call { IsCall D.size D.failures D.honest (disk_of cells.old) (disk_of cells.new) (fault_of result) }
+    ensures call { Calls D.Disk (disk_of cells.old) (disk_of cells.new) (fault_of result) }
     ensures synced { D.honest (disk_of cells.old) → OnOk result (D.history (disk_of cells.new) ≡ Synced (D.history (disk_of cells.old))) }
     ensures unwritten { D.honest (disk_of cells.old) → IsUnwritten (D.history (disk_of cells.old)) (D.history (disk_of cells.new)) }
     ensures form { IfOk result (λ x. IsSuperAt (D.size (disk_of cells.old)) (side_of x.0.number) x.0) }
@@ -133,7 +133,7 @@ fn relaid<D: Disk>(cells: Cells<D>, layout: Layout) -> Cells<D>
 ///
 /// Refuses with `OutOfMemory`, and with `DiskFault` where the device failed.
 pub fn read_disk<D: Disk>(alloc: Global, disk: D) -> Result<Opened<D>, (D, Refusal)>
-    ensures call { MatchResult result (λ o. IsCall {T = Unit {0}} D.size D.failures D.honest disk (disk_of o.cells) (Ok tt)) (λ x. IsCall D.size D.failures D.honest disk x.0 (fault_in x.1)) }
+    ensures call { MatchResult result (λ o. Calls {T = Unit {0}} D.Disk disk (disk_of o.cells) (Ok tt)) (λ x. Calls D.Disk disk x.0 (fault_in x.1)) }
     ensures small { D.size disk < need_of without_log → result ≡ Err (disk, Refusal.NotFormatted) }
     ensures unwritten { D.honest disk → IfErr result (λ x. IsUnwritten (D.history disk) (D.history x.0)) }
     ensures opened { IfOk result (λ o. IsOpened (D.size disk) o.superblock (layout_of o.cells) o.log o.items.items o.certifier.current o.versions) }

@@ -31,7 +31,7 @@ fn read_page<D: Disk>(
     requires room { length room.old ≡ PAGE_SIZE }
     ensures room { length room.new ≡ PAGE_SIZE }
     ensures layout { layout_of cells.new ≡ layout_of cells.old }
-    ensures looks { Looks D.size D.failures D.honest D.history (disk_of cells.old) (disk_of cells.new) result }
+    ensures looks { Looks D.Disk (disk_of cells.old) (disk_of cells.new) result }
     ensures found { D.honest (disk_of cells.old) → failed (D.history (disk_of cells.old)) ≡ [] → OnOk result ((slot : Slot) → state_of_page superblock.now number ≡ In slot → HasPage (reading_of (layout_of cells.old) (seen (D.history (disk_of cells.old)))) superblock.now number slot) }
     ensures refused { IfErr result (RefusesPart Pages (D.honest (disk_of cells.old) → failed (D.history (disk_of cells.old)) ≡ [] → HasBadPage (reading_of (layout_of cells.old) (seen (D.history (disk_of cells.old)))) superblock.now)) }
 {
@@ -57,7 +57,7 @@ pub(crate) fn read_pages<D: Disk>(
     requires form { IsSuper superblock.now }
     requires layout { layout_of cells.old ≡ layout_with superblock.now.params }
     ensures layout { layout_of cells.new ≡ layout_of cells.old }
-    ensures looks { Looks D.size D.failures D.honest D.history (disk_of cells.old) (disk_of cells.new) result }
+    ensures looks { Looks D.Disk (disk_of cells.old) (disk_of cells.new) result }
     ensures found { D.honest (disk_of cells.old) → failed (D.history (disk_of cells.old)) ≡ [] → OnOk result (HasPages (reading_of (layout_of cells.old) (seen (D.history (disk_of cells.old)))) superblock.now) }
     ensures refused { IfErr result (RefusesPart Pages (D.honest (disk_of cells.old) → failed (D.history (disk_of cells.old)) ≡ [] → HasBadPage (reading_of (layout_of cells.old) (seen (D.history (disk_of cells.old)))) superblock.now)) }
 {

@@ -36,7 +36,7 @@ fn superblock_of(bytes: &[u8], side: Side, size: usize) -> Result<SuperBody, Ref
 /// The superblock of a side, if its gate stands open.
 fn read_super<D: Disk>(cells: &mut Cells<D>, side: Side) -> Result<Option<SuperBody>, Refusal>
     ensures layout { layout_of cells.new ≡ layout_of cells.old }
-    ensures looks { Looks D.size D.failures D.honest D.history (disk_of cells.old) (disk_of cells.new) result }
+    ensures looks { Looks D.Disk (disk_of cells.old) (disk_of cells.new) result }
     ensures form { IfOk result (λ found. IfSome found (λ b. IsSuperAt (D.size (disk_of cells.old)) side b)) }
     ensures found { D.honest (disk_of cells.old) → failed (D.history (disk_of cells.old)) ≡ [] → IfOk result (λ found. reading_of (layout_of cells.old) (seen (D.history (disk_of cells.old))) (Place.Super side) ≡ option_map super_bytes found) }
     ensures refused { IfErr result (RefusesPart Superblock (D.honest (disk_of cells.old) → failed (D.history (disk_of cells.old)) ≡ [] → HasBadSuper (D.size (disk_of cells.old)) (reading_of (layout_of cells.old) (seen (D.history (disk_of cells.old)))))) }
@@ -78,7 +78,7 @@ fn choose(a: Option<SuperBody>, b: Option<SuperBody>) -> Option<(SuperBody, bool
 /// also beside one that is of the form; and with `DiskFault` where the device failed.
 pub(crate) fn find_super<D: Disk>(cells: &mut Cells<D>) -> Result<(SuperBody, bool), Refusal>
     ensures layout { layout_of cells.new ≡ layout_of cells.old }
-    ensures looks { Looks D.size D.failures D.honest D.history (disk_of cells.old) (disk_of cells.new) result }
+    ensures looks { Looks D.Disk (disk_of cells.old) (disk_of cells.new) result }
     ensures form { IfOk result (λ x. IsSuperAt (D.size (disk_of cells.old)) (side_of x.0.number) x.0) }
     ensures found { D.honest (disk_of cells.old) → failed (D.history (disk_of cells.old)) ≡ [] → IfOk result (λ x. Counts (D.size (disk_of cells.old)) (reading_of (layout_of cells.old) (seen (D.history (disk_of cells.old)))) x.0 x.1) }
     ensures refused { IfErr result (RefusesSupers (D.honest (disk_of cells.old) → failed (D.history (disk_of cells.old)) ≡ [] → HasNoSuper (reading_of (layout_of cells.old) (seen (D.history (disk_of cells.old))))) (D.honest (disk_of cells.old) → failed (D.history (disk_of cells.old)) ≡ [] → HasBadSuper (D.size (disk_of cells.old)) (reading_of (layout_of cells.old) (seen (D.history (disk_of cells.old)))))) }

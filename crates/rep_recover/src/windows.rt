@@ -51,7 +51,7 @@ pub(crate) fn read_window<D: Disk>(
     superblock: &SuperBody,
 ) -> Result<Window, Refusal>
     ensures layout { layout_of cells.new ≡ layout_of cells.old }
-    ensures looks { Looks D.size D.failures D.honest D.history (disk_of cells.old) (disk_of cells.new) result }
+    ensures looks { Looks D.Disk (disk_of cells.old) (disk_of cells.new) result }
     ensures form { IfOk result (λ kept. IsWindowBody superblock.now.params (beside superblock.now kept)) }
     ensures found { D.honest (disk_of cells.old) → failed (D.history (disk_of cells.old)) ≡ [] → IfOk result (HasWindow (reading_of (layout_of cells.old) (seen (D.history (disk_of cells.old)))) superblock.now) }
     ensures refused { IfErr result (RefusesGrowing in_window (D.honest (disk_of cells.old) → failed (D.history (disk_of cells.old)) ≡ [] → (kept : WindowOf) → HasWindow (reading_of (layout_of cells.old) (seen (D.history (disk_of cells.old)))) superblock.now kept → ⊥)) }

@@ -10,7 +10,7 @@ use Rattle.rep_types.specs.declared.refusal.Refusal.TheVariants.{OutOfMemory, Di
 use Rattle.rep_types.specs.declared.refusal.Part.TheVariants.{Pages}
 use Rattle.rep_types.specs.Replies.{reply_of}
 use Rattle.rep_record.specs.Fronts.{fitting}
-use Rattle.rep_disk.specs.History.{History}
+use Rattle.rep_disk.specs.declared.disk.Disk.{Ghosts}
 use Rattle.rep_log.specs.declared.phase.Phase.{Phase}
 use Rattle.rep_log.specs.declared.phase.Phase.TheVariants.{Resting, Closing, Filling, Filled, Opening}
 use Rattle.rep_steps.specs.declared.event.Event.{Event}
@@ -35,14 +35,14 @@ runs_as rule other weaker s t [] (a ∷ answers) r = absurd r
 runs_as rule other weaker s t (e ∷ events) [] r = absurd r
 runs_as rule other weaker s t (e ∷ events) (a ∷ answers) r = (r.0, (weaker s e r.1.0, r.1.1), runs_as rule other weaker r.0 t events answers r.2)
 
-unfoldable pub works_as : (rule other : Standing → Event → Type 0) → ((s : Standing) (e : Event) → rule s e → other s e) → {D : Type 0} (honest : D → Type 0) (history : D → History) (failures : D → ℕ) (old new : Replica D) (result : Result (Unit {0}) Refusal)
-    → WorksBy rule honest history failures old new result → WorksBy other honest history failures old new result
-works_as rule other weaker honest history failures old new result w = record {
+unfoldable pub works_as : (rule other : Standing → Event → Type 0) → ((s : Standing) (e : Event) → rule s e → other s e) → {D : Type 0} (g : Ghosts D) (old new : Replica D) (result : Result (Unit {0}) Refusal)
+    → WorksBy rule g old new result → WorksBy other g old new result
+works_as rule other weaker g old new result w = record {
   events = w.events;
   answers = w.answers;
   own = w.own;
   ends = w.ends;
-  moves = runs_as rule other weaker (facts_of failures old) (facts_of failures new) w.events w.answers w.moves;
+  moves = runs_as rule other weaker (facts_of g old) (facts_of g new) w.events w.answers w.moves;
   steps = w.steps;
   device = w.device;
   corrupt = w.corrupt;
@@ -65,13 +65,6 @@ turn_of_due s e due = due_turn s s.stage e refl due
 pub turn_of_turn : (s : Standing) (e : Event) → IsTurn false s e → IsTurn true s e
 turn_of_turn s e (inl log) = inl log
 turn_of_turn s e (inr riding) = inr (riding.0, λ _. refl)
-
--- what rides waits for no sync
-pub flush_turn : (full : Bool) (s : Standing) (page : ℕ) → step_of s.stage ≡ Some (Flush page) → IsTurn full s (Flush page)
-flush_turn full s page waits = inr (waits, λ never. absurd cc)
-
-pub check_turn : (full : Bool) (s : Standing) → step_of s.stage ≡ Some Check → IsTurn full s Check
-check_turn full s waits = inr (waits, λ never. absurd cc)
 
 -- ---- replies come of what becomes durable alone
 
@@ -176,21 +169,6 @@ flush_beside s t page f is = beside_by s t (flushed page s.stage) is
 
 pub check_beside : (s t : Standing) (f : Found) → t ≡ after s Check f → Beside s t
 check_beside s t f is = beside_by s t (checked s f.left s.stage) is
-
--- where it waits for no page, none is left
-none_in_part : (part : Part) → ((page : ℕ) → step_of_part part ≡ Flush page → ⊥) → left_in_part part ≡ []
-none_in_part (Flushing []) not = refl
-none_in_part (Flushing (page ∷ left)) not = absurd (not page refl)
-none_in_part Saving not = refl
-none_in_part Ready not = refl
-none_in_part SuperFilling not = refl
-none_in_part SuperFilled not = refl
-none_in_part SuperOpening not = refl
-
-pub none_left : (stage : Stage) → ((page : ℕ) → step_of stage ≡ Some (Flush page) → ⊥) → pages_left stage ≡ []
-none_left Off not = refl
-none_left (Toward goal part) not = none_in_part part (λ page is. not page (ap Some is))
-none_left (Retiring written) not = refl
 
 -- and it stays so, while it is under way
 checked_part : (s : Standing) (left : List ℕ) (goal : Goal) (part : Part) → step_of_part part ≡ Check → pages_left (checked s left (Toward goal part)) ≡ []

@@ -16,7 +16,7 @@ use Rattle.rep_types.specs.Items.{IsWithin}
 use Rattle.rep_types.specs.Windows.{Window}
 use Rattle.rep_types.specs.Settings.{Setting}
 use Rattle.rep_types.specs.Order.{State, judge, window_after}
-use Rattle.rep_disk.specs.History.{History}
+use Rattle.rep_disk.specs.declared.disk.Disk.{Ghosts}
 use Rattle.rep_cert.specs.Holdings.{Holding, IsAskable, Admits, reach_at, window_of, verdict_of}
 use Rattle.rep_steps.specs.Events.{delivery}
 use Rattle.rep_steps.specs.Deliveries.{delivery_refused, delivery_answer, delivery_after, delivery_verdict, delivery_moved}
@@ -52,9 +52,9 @@ pub running_refusal : (s : Standing) (seqno : ℕ) (i : Item) → s.stopped ≡ 
 running_refusal s seqno i runs = delivery_refused seqno s i ∙ ap (λ b. if b then Some Stopped else delivery_refusal s seqno) runs
 
 -- the backlog has room
-pub not_full : {D : Type 0} (failures : D → ℕ) (r : Replica D) (seqno : ℕ) → delivery_refusal (facts_of failures r) seqno ≡ None → length r.backlog < MAX_AHEAD
-not_full failures r seqno none =
-    let s : Standing = facts_of failures r in
+pub not_full : {D : Type 0} (g : Ghosts D) (r : Replica D) (seqno : ℕ) → delivery_refusal (facts_of g r) seqno ≡ None → length r.backlog < MAX_AHEAD
+not_full g r seqno none =
+    let s : Standing = facts_of g r in
     let few = (tests (is_nil_bytes s.uuid) (delivered s == MAX_SEQNO) _ (nat_le MAX_AHEAD (length s.ahead)) _ _ _ _ none).2 in
     let many : length s.ahead < MAX_AHEAD = grind (arith, nat_tests, few) in
     omega (arith, many, length-append r.engine.block r.backlog)
@@ -64,9 +64,9 @@ by_none A B o none a = subst (λ (o : Option Refusal). MatchOption o A B) (sym n
 
 -- ---- the replica with one item more
 
-module _ {D : Type 0} (honest : D → Type 0) (history : D → History) (failures : D → ℕ) (old new : Replica D) (seqno : ℕ) (i : Item) (j : Judged)
-    (running : old.stopped ≡ false) (runs : old.engine.halted ≡ None) (none : delivery_refusal (facts_of failures old) seqno ≡ None)
-    (is : IsReplica (engine_facts failures old.engine) old.backlog old.certifier.current old.stopped)
+module _ {D : Type 0} (g : Ghosts D) (old new : Replica D) (seqno : ℕ) (i : Item) (j : Judged)
+    (running : old.stopped ≡ false) (runs : old.engine.halted ≡ None) (none : delivery_refusal (facts_of g old) seqno ≡ None)
+    (is : IsReplica (engine_facts g old.engine) old.backlog old.certifier.current old.stopped)
     (j_is : j ≡ record { seqno = old.certifier.current.delivered + 1; item = i; verdict = verdict_of old.certifier.current i })
     (admits : Admits old.certifier.current i new.certifier.current)
     (engine : new.engine ≡ old.engine) (backlog : new.backlog ≡ old.backlog ++ j ∷ []) (stopped : new.stopped ≡ old.stopped) (goes : JudgingGoesOn) where
@@ -74,7 +74,7 @@ module _ {D : Type 0} (honest : D → Type 0) (history : D → History) (failure
   h = old.certifier.current
 
   abbrev s : Standing
-  s = facts_of failures old
+  s = facts_of g old
 
   count : h.delivered ≡ delivered s
   count = let go = is.items running in omega (arith, go.count, length-append old.engine.block old.backlog)
@@ -91,18 +91,18 @@ module _ {D : Type 0} (honest : D → Type 0) (history : D → History) (failure
   ahead_is : new.engine.block ++ new.backlog ≡ s.ahead ++ j ∷ []
   ahead_is = ap (λ (e : Engine D). e.block ++ new.backlog) engine ∙ ap (λ (xs : List Judged). old.engine.block ++ xs) backlog ∙ sym (append_assoc old.engine.block old.backlog (j ∷ []))
 
-  facts_are : facts_of failures new ≡ record s { ahead = s.ahead ++ j ∷ [] }
+  facts_are : facts_of g new ≡ record s { ahead = s.ahead ++ j ∷ [] }
   facts_are =
-      ap (λ (xs : List Judged). record (engine_facts failures new.engine) { ahead = xs; stopped = new.stopped || is_some new.engine.halted }) ahead_is
-      ∙ ap (λ (e : Engine D). record (engine_facts failures e) { ahead = s.ahead ++ j ∷ []; stopped = new.stopped || is_some e.halted }) engine
-      ∙ ap (λ b. record (engine_facts failures old.engine) { ahead = s.ahead ++ j ∷ []; stopped = b || is_some old.engine.halted }) stopped
+      ap (λ (xs : List Judged). record (engine_facts g new.engine) { ahead = xs; stopped = new.stopped || is_some new.engine.halted }) ahead_is
+      ∙ ap (λ (e : Engine D). record (engine_facts g e) { ahead = s.ahead ++ j ∷ []; stopped = new.stopped || is_some e.halted }) engine
+      ∙ ap (λ b. record (engine_facts g old.engine) { ahead = s.ahead ++ j ∷ []; stopped = b || is_some old.engine.halted }) stopped
 
   -- ---- on any device
 
   abbrev found_it : Found
   found_it = record { verdict = verdict_of h i; stale = false; left = []; row = None }
 
-  pub delivered_moves : Moves s (delivery seqno i) (Gave (verdict_of h i)) (facts_of failures new)
+  pub delivered_moves : Moves s (delivery seqno i) (Gave (verdict_of h i)) (facts_of g new)
   delivered_moves = by_none _ _ (refusal s (delivery seqno i)) nothing (inl (found_it, sym (delivery_answer seqno s i found_it), facts_are ∙ ap (λ (x : Judged). record s { ahead = s.ahead ++ x ∷ [] }) next_is ∙ sym (delivery_after seqno s i found_it)))
 
   passed : (is_nil_bytes s.uuid ≡ false) × ((delivered s == MAX_SEQNO) ≡ false) × (nat_le MAX_AHEAD (length s.ahead) ≡ false)
@@ -118,10 +118,10 @@ module _ {D : Type 0} (honest : D → Type 0) (history : D → History) (failure
       let last = passed.1 in
       grind (arith, nat_tests, last, below)
 
-  pub replica_delivers : VerdictsHaveAPlace → CertifiersHoldWindows → IsWithin i → IsReplica (engine_facts failures new.engine) new.backlog new.certifier.current new.stopped
+  pub replica_delivers : VerdictsHaveAPlace → CertifiersHoldWindows → IsWithin i → IsReplica (engine_facts g new.engine) new.backlog new.certifier.current new.stopped
   replica_delivers places law limits =
-      subst (λ (e : Engine D). IsReplica (engine_facts failures e) new.backlog new.certifier.current new.stopped) (sym engine)
-      (subst (λ (js : List Judged). IsReplica (engine_facts failures old.engine) js new.certifier.current new.stopped) (sym backlog) (record {
+      subst (λ (e : Engine D). IsReplica (engine_facts g e) new.backlog new.certifier.current new.stopped) (sym engine)
+      (subst (λ (js : List Judged). IsReplica (engine_facts g old.engine) js new.certifier.current new.stopped) (sym backlog) (record {
         setting = admits.setting ∙ is.setting;
         askable = record {
           made = omega (arith, admits.made, is.askable.made);
@@ -134,7 +134,7 @@ module _ {D : Type 0} (honest : D → Type 0) (history : D → History) (failure
             let place : j.seqno ≡ old.certifier.current.delivered + 1 = ap (λ (x : Judged). x.seqno) j_is in
             record {
               come = record {
-                follow = goes.seqnos_more (delivered (engine_facts failures old.engine) + 1) old.backlog j go.come.follow (omega (arith, place, go.count));
+                follow = goes.seqnos_more (delivered (engine_facts g old.engine) + 1) old.backlog j go.come.follow (omega (arith, place, go.count));
                 limit = omega (arith, length-append old.backlog (j ∷ []), go.count, count, limited);
                 undefined = λ nil. absurd (let never : false ≡ true = sym passed.0 ∙ nil in cc);
               };
@@ -145,15 +145,15 @@ module _ {D : Type 0} (honest : D → Type 0) (history : D → History) (failure
 
   -- ---- of a node
 
-  module _ (stay : NodesStayNodes) (n : Node) (holds : Holds honest history failures n old) where
+  module _ (stay : NodesStayNodes) (n : Node) (holds : Holds g n old) where
     abbrev p : Setting
     p = n.facts.setting
 
     abbrev q : ℕ
     q = holds.taken
 
-    abbrev judges : Judges honest history failures old n
-    judges = judges_as honest history failures old running is n holds
+    abbrev judges : Judges g old n
+    judges = judges_as g old running is n holds
 
     setting_is : h.setting ≡ p
     setting_is = judges.setting
@@ -184,7 +184,7 @@ module _ {D : Type 0} (honest : D → Type 0) (history : D → History) (failure
     step : Steps n (delivery seqno i) (Gave (verdict_of h i)) m
     step = by_none _ _ (refusal n.facts (delivery seqno i)) (ap (λ (t : Standing). refusal t (delivery seqno i)) holds.facts ∙ nothing) (inl (ap Gave (verdict_is ∙ sym (delivery_verdict seqno n i)) ∙ sym (delivery_answer seqno n.facts i (found n (delivery seqno i))), sym (delivery_moved seqno n i)))
 
-    facts_then : m.facts ≡ facts_of failures new
+    facts_then : m.facts ≡ facts_of g new
     facts_then =
         ap (λ (x : Judged). record n.facts { ahead = n.facts.ahead ++ x ∷ [] }) (sym item_is) ∙ ap (λ (t : Standing). record t { ahead = t.ahead ++ j ∷ [] }) holds.facts ∙ sym facts_are
 
@@ -226,11 +226,11 @@ module _ {D : Type 0} (honest : D → Type 0) (history : D → History) (failure
             admits.kept k ask le ∙ holds.windows k above (record { made = omega (arith, ask.made, admits.made); near = omega (arith, ask.near, admits.delivered); past = le })
             ∙ ap (λ (xs : List Judged). (reached p n.base xs).kept) (sym (take-append-le (k - n.base.position) n.items (j ∷ []) (omega (arith, le, here, all))))
 
-    pub delivered_holds : (t : Node) × Steps n (delivery seqno i) (Gave (verdict_of h i)) t × Holds honest history failures t new
+    pub delivered_holds : (t : Node) × Steps n (delivery seqno i) (Gave (verdict_of h i)) t × Holds g t new
     delivered_holds =
         let part : part_of old.engine.block q m ≡ part_of old.engine.block q n =
         ap (λ (xs : List Judged). record n { facts = with_ahead old.engine.block n.facts; items = xs }) (take-append-le q n.items (next_item n.facts i (verdict_for n i) ∷ []) holds.within) in
-        let there : EngineHolds honest history failures (part_of old.engine.block q m) old.engine = subst (λ (k : Node). EngineHolds honest history failures k old.engine) (sym part) holds.engine in (
+        let there : EngineHolds g (part_of old.engine.block q m) old.engine = subst (λ (k : Node). EngineHolds g k old.engine) (sym part) holds.engine in (
           m,
           step,
           record {
@@ -240,22 +240,22 @@ module _ {D : Type 0} (honest : D → Type 0) (history : D → History) (failure
             judged = subst (AreJudgedFrom p n.base) (sym items_are) (goes.judged_more p n.base n.items j holds.judged (seqno_is, verdict_here, tt));
             taken = q;
             within = omega (arith, holds.within, ap length items_are, length-append n.items (j ∷ []));
-            engine = subst (λ (e : Engine D). EngineHolds honest history failures (part_of e.block q m) e) (sym engine) there;
+            engine = subst (λ (e : Engine D). EngineHolds g (part_of e.block q m) e) (sym engine) there;
             waiting = backlog ∙ ap (λ (xs : List Judged). xs ++ j ∷ []) holds.waiting ∙ sym (drop-append-le q n.items (j ∷ []) holds.within) ∙ ap (drop q) (sym items_are);
             windows = λ k above ask. windows_more k above ask ∙ ap (λ (xs : List Judged). (reached p n.base (take (k - n.base.position) xs)).kept) (sym items_are);
           },
         )
 
-  spelled_by : (x : Item) → Spells honest history old (delivery seqno x) (Gave (verdict_of h i)) new
+  spelled_by : (x : Item) → Spells g old (delivery seqno x) (Gave (verdict_of h i)) new
   spelled_by (WriteSet w) = tt
   spelled_by (OfChange c) = tt
 
-  pub delivered_step : NodesStayNodes → IsStep honest history failures old (delivery seqno i) (Gave (verdict_of h i)) new
+  pub delivered_step : NodesStayNodes → IsStep g old (delivery seqno i) (Gave (verdict_of h i)) new
   delivered_step stay = record {
     moves = delivered_moves;
     steps = delivered_holds stay;
-    leaves = λ n holds. leaves_none (history old.engine.disk) (history new.engine.disk) (ap (λ (e : Engine D). history e.disk) engine);
-    device = subst (λ (x : Engine D). honest old.engine.disk ↔ honest x.disk) (sym engine) (λ h. h, λ h. h);
+    leaves = λ n holds. leaves_none (g.history old.engine.disk) (g.history new.engine.disk) (ap (λ (e : Engine D). g.history e.disk) engine);
+    device = subst (λ (x : Engine D). g.honest old.engine.disk ↔ g.honest x.disk) (sym engine) (λ h. h, λ h. h);
     unchanged = tt;
     spelled = spelled_by i;
   }
@@ -270,6 +270,6 @@ judged_none h seqno (WriteSet w) r = tt
 judged_none h seqno (OfChange c) r = tt
 
 -- no page is read for it
-pub spelled_none : {D : Type 0} (honest : D → Type 0) (history : D → History) (old new : Replica D) (seqno : ℕ) (i : Item) (r : Refusal) → Spells honest history old (delivery seqno i) (Refused r) new
-spelled_none honest history old new seqno (WriteSet w) r = tt
-spelled_none honest history old new seqno (OfChange c) r = tt
+pub spelled_none : {D : Type 0} (g : Ghosts D) (old new : Replica D) (seqno : ℕ) (i : Item) (r : Refusal) → Spells g old (delivery seqno i) (Refused r) new
+spelled_none g old new seqno (WriteSet w) r = tt
+spelled_none g old new seqno (OfChange c) r = tt

@@ -8,6 +8,7 @@ use Rattle.rep_types.specs.declared.refusal.Refusal.TheVariants.{Stopped, DiskFa
 use Rattle.rep_types.specs.declared.refusal.Part.{Part}
 use Rattle.rep_types.specs.Order.{State}
 use Rattle.rep_record.specs.Blocks.{Contents}
+use Rattle.rep_disk.specs.declared.disk.Disk.{Ghosts}
 use Rattle.rep_disk.specs.History.{History}
 use Rattle.rep_layout.specs.declared.place.Layout.{Layout}
 use Rattle.rep_layout.specs.declared.super_body.SuperBody.{SuperBody}
@@ -38,14 +39,14 @@ never_stopped false (Some x) runs none on = cc
 
 -- ---- the device was asked
 
-module _ {D T : Type 0} (size failures : D → ℕ) (honest : D → Type 0) (history : D → History) (part : Part) (within old : Replica D) (is : within ≡ old) (off : (old.stopped || is_some old.engine.halted) ≡ false) (engine : Engine D) (result : Result T Refusal)
-    (asked : EngineAsks size failures honest history part within.engine engine result) where
+module _ {D T : Type 0} (g : Ghosts D) (part : Part) (within old : Replica D) (is : within ≡ old) (off : (old.stopped || is_some old.engine.halted) ≡ false) (engine : Engine D) (result : Result T Refusal)
+    (asked : EngineAsks g part within.engine engine result) where
   off_within : (within.stopped || is_some within.engine.halted) ≡ false
   off_within = ap (λ (r : Replica D). r.stopped || is_some r.engine.halted) is ∙ off
 
   -- Of the replica nothing else changes.
-  pub asks : Asks size failures honest history part old (record within { engine = engine }) result
-  asks = subst (λ (r : Replica D). Asks size failures honest history part r (record within { engine = engine }) result) is (record {
+  pub asks : Asks g part old (record within { engine = engine }) result
+  asks = subst (λ (r : Replica D). Asks g part r (record within { engine = engine }) result) is (record {
     call = asked.call;
     same = asked.same;
     rest = ap (λ (e : Engine D). record within { engine = e }) asked.rest;
@@ -56,20 +57,20 @@ module _ {D T : Type 0} (size failures : D → ℕ) (honest : D → Type 0) (his
   block_same : engine.block ≡ within.engine.block
   block_same = ap (λ (e : Engine D). e.block) asked.rest
 
-  module _ (n : Node) (still : (m : Node) → EngineHolds honest history failures m within.engine → result ≢ Err DiskFault → EngineHolds honest history failures m engine) (holds : Holds honest history failures n old) (other : result ≢ Err DiskFault) where
-    before : Holds honest history failures n within
-    before = subst (Holds honest history failures n) (sym is) holds
+  module _ (n : Node) (still : (m : Node) → EngineHolds g m within.engine → result ≢ Err DiskFault → EngineHolds g m engine) (holds : Holds g n old) (other : result ≢ Err DiskFault) where
+    before : Holds g n within
+    before = subst (Holds g n) (sym is) holds
 
-    after : EngineHolds honest history failures (part_of within.engine.block before.taken n) engine
+    after : EngineHolds g (part_of within.engine.block before.taken n) engine
     after = still (part_of within.engine.block before.taken n) before.engine other
 
-    facts_same : n.facts ≡ facts_of failures (record within { engine = engine })
+    facts_same : n.facts ≡ facts_of g (record within { engine = engine })
     facts_same =
         ap (λ (xs : List Judged). with_ahead xs n.facts) (ap (λ (s : Standing). s.ahead) before.facts) ∙ ap (with_ahead (within.engine.block ++ within.backlog)) after.facts
-        ∙ ap (λ (xs : List Judged). with_ahead (xs ++ within.backlog) (engine_facts failures engine)) (sym block_same) ∙ sym (running_facts failures (record within { engine = engine }) before.running)
+        ∙ ap (λ (xs : List Judged). with_ahead (xs ++ within.backlog) (engine_facts g engine)) (sym block_same) ∙ sym (running_facts g (record within { engine = engine }) before.running)
 
     -- It goes on to stand for the node.
-    pub holds_on : Holds honest history failures n (record within { engine = engine })
+    pub holds_on : Holds g n (record within { engine = engine })
     holds_on = record {
       running = before.running;
       facts = facts_same;
@@ -77,7 +78,7 @@ module _ {D T : Type 0} (size failures : D → ℕ) (honest : D → Type 0) (his
       judged = before.judged;
       taken = before.taken;
       within = before.within;
-      engine = subst (λ (xs : List Judged). EngineHolds honest history failures (part_of xs before.taken n) engine) (sym block_same) after;
+      engine = subst (λ (xs : List Judged). EngineHolds g (part_of xs before.taken n) engine) (sym block_same) after;
       waiting = before.waiting;
       windows = before.windows;
     }
@@ -98,22 +99,22 @@ found_as (Ok (Some x)) more is = more x is
 found_as (Ok None) more is = tt
 found_as (Err e) more is = tt
 
-module _ {D : Type 0} (honest : D → Type 0) (history : D → History) (failures : D → ℕ) (within old : Replica D) (is : within ≡ old) (n : Node) (holds : Holds honest history failures n old) where
-  here : Holds honest history failures n within
-  here = subst (Holds honest history failures n) (sym is) holds
+module _ {D : Type 0} (g : Ghosts D) (within old : Replica D) (is : within ≡ old) (n : Node) (holds : Holds g n old) where
+  here : Holds g n within
+  here = subst (Holds g n) (sym is) holds
 
   near : n.facts.durable - n.facts.base ≤ here.taken
   near = let size : length (take here.taken n.items) ≡ here.taken = length-take-le here.taken n.items here.within in omega (arith, here.engine.node.enough, size)
 
   -- The block is the node's.
   pub block_of_all : (index : ℕ) (result : Result (Option Contents) Refusal)
-      → ((m : Node) → EngineHolds honest history failures m within.engine → IfOk result (λ found. IfSome found (λ b. IsTailBlock m within.engine.layout (history within.engine.disk) within.engine.checkpoint.base within.engine.log index b.records)))
-      → IfOk result (λ found. IfSome found (λ b. IsTailBlock n old.engine.layout (history old.engine.disk) old.engine.checkpoint.base old.engine.log index b.records))
-  block_of_all index result gives = subst (λ (r : Replica D). IfOk result (λ found. IfSome found (λ b. IsTailBlock n r.engine.layout (history r.engine.disk) r.engine.checkpoint.base r.engine.log index b.records))) is
-      (found_as result (λ b. tail_of_all n within.engine.block here.taken within.engine.layout (history within.engine.disk) within.engine.checkpoint.base within.engine.log index b.records near) (gives (part_of within.engine.block here.taken n) here.engine))
+      → ((m : Node) → EngineHolds g m within.engine → IfOk result (λ found. IfSome found (λ b. IsTailBlock m within.engine.layout (g.history within.engine.disk) within.engine.checkpoint.base within.engine.log index b.records)))
+      → IfOk result (λ found. IfSome found (λ b. IsTailBlock n old.engine.layout (g.history old.engine.disk) old.engine.checkpoint.base old.engine.log index b.records))
+  block_of_all index result gives = subst (λ (r : Replica D). IfOk result (λ found. IfSome found (λ b. IsTailBlock n r.engine.layout (g.history r.engine.disk) r.engine.checkpoint.base r.engine.log index b.records))) is
+      (found_as result (λ b. tail_of_all n within.engine.block here.taken within.engine.layout (g.history within.engine.disk) within.engine.checkpoint.base within.engine.log index b.records near) (gives (part_of within.engine.block here.taken n) here.engine))
 
   -- Node and part have one base.
-  pub base_of_all : (P : State → Type 0) → ((m : Node) → EngineHolds honest history failures m within.engine → P m.base) → P n.base
+  pub base_of_all : (P : State → Type 0) → ((m : Node) → EngineHolds g m within.engine → P m.base) → P n.base
   base_of_all P gives = gives (part_of within.engine.block here.taken n) here.engine
 
 -- ---- where it is stopped
@@ -127,5 +128,5 @@ no_window r b part = record { given = tt; corrupt = λ is entries window stands.
 pub no_page : (r : Reading) (b : SuperBody) (number : ℕ) (part : Part) → IsBasePageAsSpelled r b number (Err Stopped) part
 no_page r b number part = record { given = tt; corrupt = λ is. absurd cc }
 
-pub holds_running : {D : Type 0} (honest : D → Type 0) (history : D → History) (failures : D → ℕ) (r : Replica D) (n : Node) → Holds honest history failures n r → r.engine.halted ≡ None → (r.stopped || is_some r.engine.halted) ≡ true → ⊥
-holds_running honest history failures r n holds none on = never_stopped r.stopped r.engine.halted holds.running none on
+pub holds_running : {D : Type 0} (g : Ghosts D) (r : Replica D) (n : Node) → Holds g n r → r.engine.halted ≡ None → (r.stopped || is_some r.engine.halted) ≡ true → ⊥
+holds_running g r n holds none on = never_stopped r.stopped r.engine.halted holds.running none on

@@ -8,7 +8,8 @@ use Rattle.rep_types.specs.Settings.{Setting}
 use Rattle.rep_types.specs.Replies.{reply_of}
 use Rattle.rep_types.specs.Order.{Order, State, history as history_of, state}
 use Rattle.rep_types.specs.ByItems.{HistoryByItems}
-use Rattle.rep_disk.specs.History.{History, IsImage}
+use Rattle.rep_disk.specs.declared.disk.Disk.{Ghosts}
+use Rattle.rep_disk.specs.History.{IsImage}
 use Rattle.rep_disk.specs.Moments.{moment, ImageSince, LeavesOnly}
 use Rattle.rep_disk.specs.Laws.{MomentsOfCalls}
 use Rattle.rep_disk.specs.Leaving.{leaves_none, leaves_weaker, leaves_then}
@@ -120,25 +121,25 @@ module _ (by_items : HistoryByItems) (uuid : List ℕ) (p : Setting) (O : Order)
 
 -- A part of a life goes on from a node of a front of k items to a node of a front of j; and at each moment of it a stop leaves what stands
 -- for a front of the order with what was durable before it.
-record Goes {D : Type 0} (honest : D → Type 0) (history : D → History) (failures : D → ℕ) (uuid : List ℕ) (p : Setting) (O : Order) (n : Node) (k : ℕ) (r : Replica D) (j : ℕ) (m : Node) (s : Replica D) : Type 0 where
-  at : IsAtFront honest history failures uuid p O n j m s
+record Goes {D : Type 0} (g : Ghosts D) (uuid : List ℕ) (p : Setting) (O : Order) (n : Node) (k : ℕ) (r : Replica D) (j : ℕ) (m : Node) (s : Replica D) : Type 0 where
+  at : IsAtFront g uuid p O n j m s
   more : k ≤ j
-  leaves : LeavesOnly (history r.engine.disk) (history s.engine.disk) (IsFrontIn n.facts.uuid uuid p O j n.facts.durable)
+  leaves : LeavesOnly (g.history r.engine.disk) (g.history s.engine.disk) (IsFrontIn n.facts.uuid uuid p O j n.facts.durable)
 
 -- parts of a life, to the end
-record GoesOn {D : Type 0} (honest : D → Type 0) (history : D → History) (failures : D → ℕ) (uuid : List ℕ) (p : Setting) (O : Order) (k : ℕ) (n : Node) (r : Replica D) (es : List (Episode D)) (last : Replica D) : Type 0 where
-  follow : EpisodesFollow honest history failures uuid p O k n es
+record GoesOn {D : Type 0} (g : Ghosts D) (uuid : List ℕ) (p : Setting) (O : Order) (k : ℕ) (n : Node) (r : Replica D) (es : List (Episode D)) (last : Replica D) : Type 0 where
+  follow : EpisodesFollow g uuid p O k n es
   more : k ≤ reached_by k es
-  leaves : LeavesOnly (history r.engine.disk) (history last.engine.disk) (IsFrontIn n.facts.uuid uuid p O (reached_by k es) n.facts.durable)
+  leaves : LeavesOnly (g.history r.engine.disk) (g.history last.engine.disk) (IsFrontIn n.facts.uuid uuid p O (reached_by k es) n.facts.durable)
 
 -- what happened until the last call returned, and what was under way then
-record Lived {D : Type 0} (honest : D → Type 0) (history : D → History) (failures : D → ℕ) (uuid : List ℕ) (p : Setting) (O : Order) (k : ℕ) (n : Node) (given : List Reply) (past begun : List (Episode D)) (mid : Replica D) (left : List ℕ) : Type 0 where
-  follow : EpisodesFollow honest history failures uuid p O k n (past ++ begun)
-  told : AreRepliesOf (take (facts_of failures mid).durable (history_of p O)) (given ++ replies_of past)
-  front : IsFrontIn (facts_of failures mid).uuid uuid p O (reached_by k (past ++ begun)) (facts_of failures mid).durable left
+record Lived {D : Type 0} (g : Ghosts D) (uuid : List ℕ) (p : Setting) (O : Order) (k : ℕ) (n : Node) (given : List Reply) (past begun : List (Episode D)) (mid : Replica D) (left : List ℕ) : Type 0 where
+  follow : EpisodesFollow g uuid p O k n (past ++ begun)
+  told : AreRepliesOf (take (facts_of g mid).durable (history_of p O)) (given ++ replies_of past)
+  front : IsFrontIn (facts_of g mid).uuid uuid p O (reached_by k (past ++ begun)) (facts_of g mid).durable left
 
-module _ {D : Type 0} (honest : D → Type 0) (history : D → History) (failures : D → ℕ)
-    (one_thing : ImagesMeanOneThing) (hold : NodesHoldTheOrder) (follow : StepsFollowTheOrder) (come : RunsComeTo) (answer : RunsAnswerTheOrder) (stopped : StoppedReplicasHold honest history failures) (moments : MomentsOfCalls)
+module _ {D : Type 0} (g : Ghosts D)
+    (one_thing : ImagesMeanOneThing) (hold : NodesHoldTheOrder) (follow : StepsFollowTheOrder) (come : RunsComeTo) (answer : RunsAnswerTheOrder) (stopped : StoppedReplicasHold g) (moments : MomentsOfCalls)
     (fronts : FrontsStandForTheOrder) (by_items : HistoryByItems) (uuid : List ℕ) (p : Setting) (O : Order) where
   abbrev H : List Judged
   H = history_of p O
@@ -155,15 +156,15 @@ module _ {D : Type 0} (honest : D → Type 0) (history : D → History) (failure
   of_same before own new k j (inr (nil, alike, was)) same none = inr (alike ∙ nil, same, none (same ∙ alike ∙ nil))
 
   -- a run
-  ran_part : (before n : Node) (k : ℕ) (r s : Replica D) (events : List Event) (answers : List Answer) (rest : Order) → IsAtFront honest history failures uuid p O before k n r → Ran honest history failures r s events answers
+  ran_part : (before n : Node) (k : ℕ) (r s : Replica D) (events : List Event) (answers : List Answer) (rest : Order) → IsAtFront g uuid p O before k n r → Ran g r s events answers
       → (take k O ++ accepted_by events answers) ++ rest ≡ O
-      → (m : Node) × Follows O (take k O) n events answers m × Goes honest history failures uuid p O n k r (k + length (accepted_by events answers)) m s
+      → (m : Node) × Follows O (take k O) n events answers m × Goes g uuid p O n k r (k + length (accepted_by events answers)) m s
   ran_part before n k r s events answers rest at ran fed =
       let got = ran n at.holds in
       let m : Node = got.0 in
       let A : Order = accepted_by events answers in
       let j : ℕ = k + length A in
-      let follows : Follows O (take k O) n events answers m = ran_on honest history failures one_thing hold follow come answer stopped moments O (take k O) rest n events answers m at.holds.node at.of got.1.runs fed in
+      let follows : Follows O (take k O) n events answers m = ran_on g one_thing hold follow come answer stopped moments O (take k O) rest n events answers m at.holds.node at.of got.1.runs fed in
       let c = follows.comes in
       let size : length (take k O) ≡ k = length-take-le k O at.within in
       let both : length (take k O ++ A) ≡ j = omega (arith, length-append (take k O) A, size) in
@@ -183,19 +184,19 @@ module _ {D : Type 0} (honest : D → Type 0) (history : D → History) (failure
             holds = got.2;
           };
           more = omega arith;
-          leaves = leaves_weaker (history r.engine.disk) (history s.engine.disk)
+          leaves = leaves_weaker (g.history r.engine.disk) (g.history s.engine.disk)
               (λ image f. in_order n.facts.uuid uuid n.facts.uuid p n.facts.setting O j n.facts.durable image here at.setting_is (subst (λ (M : Order). IsFrontOf Means n.facts.uuid n.facts.setting M n.facts.durable image) front f))
               (got.1.leaves (take k O) at.of);
         },
       )
 
   -- an image that means a front of the node
-  front_here : (before n : Node) (k : ℕ) (r : Replica D) (image : List ℕ) → IsAtFront honest history failures uuid p O before k n r → IsFrontAt Means n image → IsFrontIn n.facts.uuid uuid p O k n.facts.durable image
+  front_here : (before n : Node) (k : ℕ) (r : Replica D) (image : List ℕ) → IsAtFront g uuid p O before k n r → IsFrontAt Means n image → IsFrontIn n.facts.uuid uuid p O k n.facts.durable image
   front_here before n k r image at f =
       in_order n.facts.uuid uuid n.facts.uuid p n.facts.setting O k n.facts.durable image (of_own before.facts.uuid uuid n.facts.uuid k at.cluster) at.setting_is (front_of hold fronts (take k O) n image at.holds.node at.of f)
 
   -- a snapshot that was given up
-  gave_part : (before n : Node) (k : ℕ) (r s : Replica D) → IsAtFront honest history failures uuid p O before k n r → (gave : GaveUp honest history failures n r s) → Goes honest history failures uuid p O n k r k gave.node s
+  gave_part : (before n : Node) (k : ℕ) (r s : Replica D) → IsAtFront g uuid p O before k n r → (gave : GaveUp g n r s) → Goes g uuid p O n k r k gave.node s
   gave_part before n k r s at gave =
       let still = gave.still in
       let was : IsOf (take k O) n = at.of in
@@ -211,11 +212,11 @@ module _ {D : Type 0} (honest : D → Type 0) (history : D → History) (failure
           holds = gave.holds;
         };
         more = omega arith;
-        leaves = leaves_weaker (history r.engine.disk) (history s.engine.disk) (λ image f. front_here before n k r image at f) gave.leaves;
+        leaves = leaves_weaker (g.history r.engine.disk) (g.history s.engine.disk) (λ image f. front_here before n k r image at f) gave.leaves;
       }
 
   -- a snapshot that can come is of a front that is no shorter
-  later : (before n : Node) (k : ℕ) (r : Replica D) (of : List ℕ) (y : State) → IsAtFront honest history failures uuid p O before k n r → CanCome n of y → (k ≤ y.position) × (n.facts.durable ≤ k)
+  later : (before n : Node) (k : ℕ) (r : Replica D) (of : List ℕ) (y : State) → IsAtFront g uuid p O before k n r → CanCome n of y → (k ≤ y.position) × (n.facts.durable ≤ k)
   later before n k r of y at can =
       let size : length (take k O) ≡ k = length-take-le k O at.within in
       let count : delivered n.facts ≡ k = (hold (take k O) n at.holds.node at.of).count ∙ size in
@@ -226,7 +227,7 @@ module _ {D : Type 0} (honest : D → Type 0) (history : D → History) (failure
       by size count (inr nil) = omega (arith, size, none_of_nil (take k O) n at.holds.node at.of nil)
 
   -- what an image means while it comes
-  either_front : (before n : Node) (k : ℕ) (r : Replica D) (of : List ℕ) (y : State) (image : List ℕ) → IsAtFront honest history failures uuid p O before k n r → IsSnapshotOf uuid p O of y → CanCome n of y → MeansOneOf n of y image
+  either_front : (before n : Node) (k : ℕ) (r : Replica D) (of : List ℕ) (y : State) (image : List ℕ) → IsAtFront g uuid p O before k n r → IsSnapshotOf uuid p O of y → CanCome n of y → MeansOneOf n of y image
       → IsFrontIn n.facts.uuid uuid p O y.position n.facts.durable image
   either_front before n k r of y image at snapshot can either = by either
     where
@@ -240,8 +241,8 @@ module _ {D : Type 0} (honest : D → Type 0) (history : D → History) (failure
           (subst (λ (q : Setting). Means image (brought_by uuid q y)) at.setting_is (subst (λ (u : List ℕ). Means image (brought_by u n.facts.setting y)) snapshot.cluster means)))
 
   -- a snapshot that came
-  brought_part : (before n : Node) (k : ℕ) (r s : Replica D) (of : List ℕ) (y : State) → IsAtFront honest history failures uuid p O before k n r → IsSnapshotOf uuid p O of y → (brought : Brought honest history failures n of y r s)
-      → Goes honest history failures uuid p O n k r y.position brought.node s
+  brought_part : (before n : Node) (k : ℕ) (r s : Replica D) (of : List ℕ) (y : State) → IsAtFront g uuid p O before k n r → IsSnapshotOf uuid p O of y → (brought : Brought g n of y r s)
+      → Goes g uuid p O n k r y.position brought.node s
   brought_part before n k r s of y at snapshot brought =
       let le = later before n k r of y at brought.can in
       let stands = brought.stands in
@@ -255,25 +256,25 @@ module _ {D : Type 0} (honest : D → Type 0) (history : D → History) (failure
           holds = brought.holds;
         };
         more = le.0;
-        leaves = leaves_weaker (history r.engine.disk) (history s.engine.disk) (λ image f. either_front before n k r of y image at snapshot brought.can f) brought.leaves;
+        leaves = leaves_weaker (g.history r.engine.disk) (g.history s.engine.disk) (λ image f. either_front before n k r of y image at snapshot brought.can f) brought.leaves;
       }
 
   -- ---- what was under way
 
   -- a part, and the parts behind it
-  leaves_on : (n m : Node) (k j h : ℕ) (r s last : Replica D) → Goes honest history failures uuid p O n k r j m s → j ≤ h → LeavesOnly (history s.engine.disk) (history last.engine.disk) (IsFrontIn m.facts.uuid uuid p O h m.facts.durable)
-      → LeavesOnly (history r.engine.disk) (history last.engine.disk) (IsFrontIn n.facts.uuid uuid p O h n.facts.durable)
+  leaves_on : (n m : Node) (k j h : ℕ) (r s last : Replica D) → Goes g uuid p O n k r j m s → j ≤ h → LeavesOnly (g.history s.engine.disk) (g.history last.engine.disk) (IsFrontIn m.facts.uuid uuid p O h m.facts.durable)
+      → LeavesOnly (g.history r.engine.disk) (g.history last.engine.disk) (IsFrontIn n.facts.uuid uuid p O h n.facts.durable)
   leaves_on n m k j h r s last goes le behind =
-      leaves_then (history r.engine.disk) (history s.engine.disk) (history last.engine.disk)
-      (leaves_weaker (history r.engine.disk) (history s.engine.disk) (λ image f. in_wider n.facts.uuid n.facts.uuid uuid p O j h n.facts.durable n.facts.durable image le (omega arith) (inr refl) f) goes.leaves)
+      leaves_then (g.history r.engine.disk) (g.history s.engine.disk) (g.history last.engine.disk)
+      (leaves_weaker (g.history r.engine.disk) (g.history s.engine.disk) (λ image f. in_wider n.facts.uuid n.facts.uuid uuid p O j h n.facts.durable n.facts.durable image le (omega arith) (inr refl) f) goes.leaves)
       behind (λ image f. in_wider n.facts.uuid m.facts.uuid uuid p O h h m.facts.durable n.facts.durable image (omega arith) goes.at.least (of_either n.facts.uuid uuid m.facts.uuid j goes.at.cluster) f)
 
-  go_on : (es : List (Episode D)) (before n : Node) (k : ℕ) (r last : Replica D) → IsAtFront honest history failures uuid p O before k n r → AreEpisodes honest history failures r es last → FedFrom uuid p O k es
-      → GoesOn honest history failures uuid p O k n r es last
+  go_on : (es : List (Episode D)) (before n : Node) (k : ℕ) (r last : Replica D) → IsAtFront g uuid p O before k n r → AreEpisodes g r es last → FedFrom uuid p O k es
+      → GoesOn g uuid p O k n r es last
   go_on [] before n k r last at same fed = record {
     follow = tt;
     more = omega arith;
-    leaves = leaves_none (history r.engine.disk) (history last.engine.disk) (ap (λ (x : Replica D). history x.engine.disk) (sym same));
+    leaves = leaves_none (g.history r.engine.disk) (g.history last.engine.disk) (ap (λ (x : Replica D). g.history x.engine.disk) (sym same));
   }
   go_on (Runs events answers to ∷ es) before n k r last at are fed =
       let part = ran_part before n k r to events answers fed.0.0 at are.0 fed.0.1 in
@@ -308,8 +309,8 @@ module _ {D : Type 0} (honest : D → Type 0) (history : D → History) (failure
       record {
         follow = le;
         more = le;
-        leaves = subst (λ (x : Replica D). LeavesOnly (history r.engine.disk) (history x.engine.disk) (IsFrontIn n.facts.uuid uuid p O y.position n.facts.durable)) are.2
-            (leaves_weaker (history r.engine.disk) (history to.engine.disk) (λ image f. either_front before n k r of y image at fed broke.can f) broke.leaves);
+        leaves = subst (λ (x : Replica D). LeavesOnly (g.history r.engine.disk) (g.history x.engine.disk) (IsFrontIn n.facts.uuid uuid p O y.position n.facts.durable)) are.2
+            (leaves_weaker (g.history r.engine.disk) (g.history to.engine.disk) (λ image f. either_front before n k r of y image at fed broke.can f) broke.leaves);
       }
 
   -- ---- a life
@@ -329,32 +330,32 @@ module _ {D : Type 0} (honest : D → Type 0) (history : D → History) (failure
       (replies_more b x H given (acknowledged answers) are (follows.answers_are.replied ∙ ap (λ (q : Setting). map reply_of (take x (drop b (history_of q O)))) same))
 
   -- where the last call has returned
-  stopped_there : (before n : Node) (k : ℕ) (given : List Reply) (mid last : Replica D) (begun : List (Episode D)) (left : List ℕ) → IsAtFront honest history failures uuid p O before k n mid → AreEpisodes honest history failures mid begun last
-      → FedFrom uuid p O k begun → ImageSince (history last.engine.disk) (moment (history mid.engine.disk)) left → AreRepliesOf (take n.facts.durable H) given → Lived honest history failures uuid p O k n given [] begun mid left
+  stopped_there : (before n : Node) (k : ℕ) (given : List Reply) (mid last : Replica D) (begun : List (Episode D)) (left : List ℕ) → IsAtFront g uuid p O before k n mid → AreEpisodes g mid begun last
+      → FedFrom uuid p O k begun → ImageSince (g.history last.engine.disk) (moment (g.history mid.engine.disk)) left → AreRepliesOf (take n.facts.durable H) given → Lived g uuid p O k n given [] begun mid left
   stopped_there before n k given mid last begun left at are fed stop told =
       let on = go_on begun before n k mid last at are fed in
       let h = reached_by k begun in
-      let uuid_is : n.facts.uuid ≡ (facts_of failures mid).uuid = ap (λ (s : Standing). s.uuid) at.holds.facts in
-      let durable_is : n.facts.durable ≡ (facts_of failures mid).durable = ap (λ (s : Standing). s.durable) at.holds.facts in
-      let here : IsImage (history mid.engine.disk) left → IsFrontIn n.facts.uuid uuid p O h n.facts.durable left =
+      let uuid_is : n.facts.uuid ≡ (facts_of g mid).uuid = ap (λ (s : Standing). s.uuid) at.holds.facts in
+      let durable_is : n.facts.durable ≡ (facts_of g mid).durable = ap (λ (s : Standing). s.durable) at.holds.facts in
+      let here : IsImage (g.history mid.engine.disk) left → IsFrontIn n.facts.uuid uuid p O h n.facts.durable left =
       λ is. in_wider n.facts.uuid n.facts.uuid uuid p O k h n.facts.durable n.facts.durable left on.more (omega arith) (inr refl)
       (in_order n.facts.uuid uuid n.facts.uuid p n.facts.setting O k n.facts.durable left (of_own before.facts.uuid uuid n.facts.uuid k at.cluster) at.setting_is (stopped.leaves (take k O) n mid (stopped.of_node n mid at.holds) at.of left is)) in
-      let front : IsFrontIn n.facts.uuid uuid p O h n.facts.durable left = by here (on.leaves.since (moment (history mid.engine.disk)) left (omega arith) stop) in
+      let front : IsFrontIn n.facts.uuid uuid p O h n.facts.durable left = by here (on.leaves.since (moment (g.history mid.engine.disk)) left (omega arith) stop) in
       record {
         follow = on.follow;
         told = subst (λ i. AreRepliesOf (take i H) (given ++ [])) durable_is (subst (AreRepliesOf (take n.facts.durable H)) (sym (append-nil given)) told);
-        front = subst (λ (u : List ℕ). IsFrontIn u uuid p O h (facts_of failures mid).durable left) uuid_is (subst (λ i. IsFrontIn n.facts.uuid uuid p O h i left) durable_is front);
+        front = subst (λ (u : List ℕ). IsFrontIn u uuid p O h (facts_of g mid).durable left) uuid_is (subst (λ i. IsFrontIn n.facts.uuid uuid p O h i left) durable_is front);
       }
     where
-      by : {F : Type 0} → (IsImage (history mid.engine.disk) left → F) → ImageSince (history mid.engine.disk) (moment (history mid.engine.disk)) left ⊎ F → F
-      by here (inl since) = here ((moments.of_none (history mid.engine.disk) left).0 since)
+      by : {F : Type 0} → (IsImage (g.history mid.engine.disk) left → F) → ImageSince (g.history mid.engine.disk) (moment (g.history mid.engine.disk)) left ⊎ F → F
+      by here (inl since) = here ((moments.of_none (g.history mid.engine.disk) left).0 since)
       by here (inr f) = f
 
-  lived : (past : List (Episode D)) (before n : Node) (k : ℕ) (given : List Reply) (r mid last : Replica D) (begun : List (Episode D)) (left : List ℕ) → IsAtFront honest history failures uuid p O before k n r → AreWhole past
-      → AreEpisodes honest history failures r past mid → AreEpisodes honest history failures mid begun last → FedFrom uuid p O k (past ++ begun) → ImageSince (history last.engine.disk) (moment (history mid.engine.disk)) left
-      → AreRepliesOf (take n.facts.durable H) given → Lived honest history failures uuid p O k n given past begun mid left
+  lived : (past : List (Episode D)) (before n : Node) (k : ℕ) (given : List Reply) (r mid last : Replica D) (begun : List (Episode D)) (left : List ℕ) → IsAtFront g uuid p O before k n r → AreWhole past
+      → AreEpisodes g r past mid → AreEpisodes g mid begun last → FedFrom uuid p O k (past ++ begun) → ImageSince (g.history last.engine.disk) (moment (g.history mid.engine.disk)) left
+      → AreRepliesOf (take n.facts.durable H) given → Lived g uuid p O k n given past begun mid left
   lived [] before n k given r mid last begun left at whole same are fed stop told =
-      stopped_there before n k given mid last begun left (subst (IsAtFront honest history failures uuid p O before k n) same at) are fed stop told
+      stopped_there before n k given mid last begun left (subst (IsAtFront g uuid p O before k n) same at) are fed stop told
   lived (Runs events answers to ∷ es) before n k given r mid last begun left at whole went are fed stop told =
       let part = ran_part before n k r to events answers fed.0.0 at went.0 fed.0.1 in
       let there = part.2.at in
@@ -362,7 +363,7 @@ module _ {D : Type 0} (honest : D → Type 0) (history : D → History) (failure
       (told_more n part.0 given events answers (take k O) at.setting_is there.least part.1 told) in
       record {
         follow = (part.0, part.1, there, rest.follow);
-        told = subst (AreRepliesOf (take (facts_of failures mid).durable H)) (append_assoc given (acknowledged answers) (replies_of es)) rest.told;
+        told = subst (AreRepliesOf (take (facts_of g mid).durable H)) (append_assoc given (acknowledged answers) (replies_of es)) rest.told;
         front = rest.front;
       }
   lived (GivesUp to ∷ es) before n k given r mid last begun left at whole went are fed stop told =
@@ -381,16 +382,16 @@ module _ {D : Type 0} (honest : D → Type 0) (history : D → History) (failure
 
   -- a life that is opened on a front of the order, or without a cluster
   life_on : (before own : List ℕ) (d h : ℕ) (given : List Reply) (image : List ℕ) (life : Life D) → IsFrontOf Means own p (take h O) d image → (own ≡ uuid) ⊎ (IsNil before × (own ≡ before)) → AreRepliesOf (take d H) given
-      → IsLife honest history failures image life → FedFrom uuid p O (facts_of failures life.start).durable (life.past ++ life.begun)
-      → LifeFollows honest history failures before uuid p O d h given life × AreRepliesOf (take (facts_of failures life.mid).durable H) (given ++ replies_of life.past)
+      → IsLife g image life → FedFrom uuid p O (facts_of g life.start).durable (life.past ++ life.begun)
+      → LifeFollows g before uuid p O d h given life × AreRepliesOf (take (facts_of g life.mid).durable H) (given ++ replies_of life.past)
   life_on before own d h given image life f kind kept is fed =
-      let opening = opened_on honest history failures one_thing hold follow come answer stopped moments own p O d h given image life.old life.start f kept is.on is.opens in
+      let opening = opened_on g one_thing hold follow come answer stopped moments own p O d h given image life.old life.start f kept is.on is.opens in
       let n : Node = opening.0 in
-      let opens : OpensOn honest history failures own p O d h given life.start f.end n = opening.1 in
+      let opens : OpensOn g own p O d h given life.start f.end n = opening.1 in
       let durable : n.facts.durable ≡ f.end = ap (λ (s : Standing). s.durable) opens.holds.facts ∙ opens.durable in
       let none : IsNil own → f.end ≡ 0 = λ nil. sym (length-take-le f.end O opens.within) ∙ none_of_nil (take f.end O) n opens.holds.node opens.of (opens.uuid_is ∙ nil) in
       let cluster : IsOfCluster before uuid own f.end = by_none before uuid own f.end kind none in
-      let at : IsAtFront honest history failures uuid p O n f.end n life.start = record {
+      let at : IsAtFront g uuid p O n f.end n life.start = record {
         cluster = subst (λ (u : List ℕ). IsOfCluster u uuid u f.end) (sym opens.uuid_is) (of_own before uuid own f.end cluster);
         setting_is = opens.setting_is;
         within = opens.within;
@@ -402,24 +403,24 @@ module _ {D : Type 0} (honest : D → Type 0) (history : D → History) (failure
       (subst (λ i. AreRepliesOf (take i H) given) (sym durable) opens.kept) in
       (record { own = own; position = f.end; cluster = cluster; start = n; opens = opens; follow = went.follow; front = went.front }, went.told)
 
-  one_life : (before : List ℕ) (d h : ℕ) (given : List Reply) (image : List ℕ) (life : Life D) → IsFrontIn before uuid p O h d image → AreRepliesOf (take d H) given → IsLife honest history failures image life
-      → FedFrom uuid p O (facts_of failures life.start).durable (life.past ++ life.begun)
-      → LifeFollows honest history failures before uuid p O d h given life × AreRepliesOf (take (facts_of failures life.mid).durable H) (given ++ replies_of life.past)
+  one_life : (before : List ℕ) (d h : ℕ) (given : List Reply) (image : List ℕ) (life : Life D) → IsFrontIn before uuid p O h d image → AreRepliesOf (take d H) given → IsLife g image life
+      → FedFrom uuid p O (facts_of g life.start).durable (life.past ++ life.begun)
+      → LifeFollows g before uuid p O d h given life × AreRepliesOf (take (facts_of g life.mid).durable H) (given ++ replies_of life.past)
   one_life before d h given image life (inl f) kept is fed = life_on before uuid d h given image life f (inl refl) kept is fed
   one_life before d h given image life (inr (nil, f)) kept is fed = life_on before before d h given image life (front_longer Means before p [] (take h O) d image f) (inr (nil, refl)) kept is fed
 
-  follow_on : (before : List ℕ) (d h : ℕ) (given : List Reply) (image : List ℕ) (lives : List (Life D)) → IsFrontIn before uuid p O h d image → AreRepliesOf (take d H) given → Lives honest history failures image lives → AreFed failures uuid p O lives
-      → LivesFollow honest history failures before uuid p O d h given lives
+  follow_on : (before : List ℕ) (d h : ℕ) (given : List Reply) (image : List ℕ) (lives : List (Life D)) → IsFrontIn before uuid p O h d image → AreRepliesOf (take d H) given → Lives g image lives → AreFed g uuid p O lives
+      → LivesFollow g before uuid p O d h given lives
   follow_on before d h given image [] f kept is fed = tt
   follow_on before d h given image (life ∷ lives) f kept is fed =
       let one = one_life before d h given image life f kept is.0 fed.0 in
-      let c = (facts_of failures life.mid).durable in
-      let own = (facts_of failures life.mid).uuid in
-      let reached = reached_by (facts_of failures life.start).durable (life.past ++ life.begun) in
+      let c = (facts_of g life.mid).durable in
+      let own = (facts_of g life.mid).uuid in
+      let reached = reached_by (facts_of g life.start).durable (life.past ++ life.begun) in
       let front : IsFrontIn own uuid p O reached c life.left = subst (λ i. IsFrontIn own uuid p O (reached_by i (life.past ++ life.begun)) c life.left) (sym one.0.opens.durable) one.0.front in
       (one.0, follow_on own c reached (given ++ replies_of life.past) life.left lives front one.1 is.1 fed.1)
 
-pub lives_with_snapshots_follow : {D : Type 0} (honest : D → Type 0) (history : D → History) (failures : D → ℕ) → ImagesMeanOneThing → NodesHoldTheOrder → StepsFollowTheOrder → RunsComeTo → RunsAnswerTheOrder → StoppedReplicasHold honest history failures
-    → MomentsOfCalls → FrontsStandForTheOrder → HistoryByItems → LivesWithSnapshotsFollowTheOrder honest history failures
-lives_with_snapshots_follow honest history failures one_thing hold follow come answer stopped moments fronts by_items before uuid p O d h image lives f is fed =
-    follow_on honest history failures one_thing hold follow come answer stopped moments fronts by_items uuid p O before d h [] image lives f (λ r has. absurd (omega (arith, has.1))) is fed
+pub lives_with_snapshots_follow : {D : Type 0} (g : Ghosts D) → ImagesMeanOneThing → NodesHoldTheOrder → StepsFollowTheOrder → RunsComeTo → RunsAnswerTheOrder → StoppedReplicasHold g
+    → MomentsOfCalls → FrontsStandForTheOrder → HistoryByItems → LivesWithSnapshotsFollowTheOrder g
+lives_with_snapshots_follow g one_thing hold follow come answer stopped moments fronts by_items before uuid p O d h image lives f is fed =
+    follow_on g one_thing hold follow come answer stopped moments fronts by_items uuid p O before d h [] image lives f (λ r has. absurd (omega (arith, has.1))) is fed

@@ -8,6 +8,7 @@ use Rattle.rep_types.specs.declared.refusal.Refusal.{Refusal}
 use Rattle.rep_types.specs.declared.refusal.Refusal.TheVariants.{Stopped, BadKey, NotYet, TooOld}
 use Rattle.rep_types.specs.Settings.{Setting, has_row}
 use Rattle.rep_types.specs.Order.{Order, read, rows}
+use Rattle.rep_disk.specs.declared.disk.Disk.{Ghosts}
 use Rattle.rep_disk.specs.History.{History, stable, IsImage}
 use Rattle.rep_cells.specs.Known.{Assigns}
 use Rattle.rep_log.specs.declared.phase.Phase.{Phase}
@@ -44,10 +45,10 @@ answered_within A B false true false false durable base s x is m = ltb-false dur
 same_row : (x y : Option (List ℕ)) → Row x ≡ Row y → x ≡ y
 same_row x y e = cc
 
-read_follows : {D : Type 0} (honest : D → Type 0) (history : D → History) (failures : D → ℕ) → StepsFollowTheOrder → (a b : Replica D) (key : Key) (s : ℕ) (answer : Result (Option (List ℕ)) Refusal)
-    → IsStep honest history failures a (Read key s) (row answer) b → (n : Node) (M : Order) (x : Option (List ℕ)) → Holds honest history failures n a → IsOf M n → answer ≡ Ok x
+read_follows : {D : Type 0} (g : Ghosts D) → StepsFollowTheOrder → (a b : Replica D) (key : Key) (s : ℕ) (answer : Result (Option (List ℕ)) Refusal)
+    → IsStep g a (Read key s) (row answer) b → (n : Node) (M : Order) (x : Option (List ℕ)) → Holds g n a → IsOf M n → answer ≡ Ok x
     → (s ≤ n.facts.durable) × (x ≡ read n.facts.setting M key s)
-read_follows honest history failures follow a b key s answer step n M x holds is_of is_ok =
+read_follows g follow a b key s answer step n M x holds is_of is_ok =
     let to = step.steps n holds in
     let steps : Steps n (Read key s) (Row x) to.0 = subst (λ (r : Result (Option (List ℕ)) Refusal). Steps n (Read key s) (row r) to.0) is_ok to.1 in (
       answered_within _ _ n.facts.stopped (has_row n.facts.setting.rows key) (nat_lt n.facts.durable s) (nat_lt s n.facts.base) n.facts.durable n.facts.base s x refl steps,
@@ -76,8 +77,8 @@ upon disk e = record e { disk = disk; halted = None }
 abbrev on_disk : {D : Type 0} → D → Replica D → Replica D
 on_disk disk r = record r { engine = upon disk r.engine; stopped = false }
 
-module _ {D : Type 0} (outlast : NodesOutlastFailures) (honest : D → Type 0) (history : D → History) (failures : D → ℕ) (old new : D) (is_honest : honest old) (same : history new ≡ history old) where
-  stands_still : (n : Node) (e : Engine D) → Stands history n (upon new e) → Stands history (recounted (failures old) n) (upon old e)
+module _ {D : Type 0} (outlast : NodesOutlastFailures) (g : Ghosts D) (old new : D) (is_honest : g.honest old) (same : g.history new ≡ g.history old) where
+  stands_still : (n : Node) (e : Engine D) → Stands g n (upon new e) → Stands g (recounted (g.failures old) n) (upon old e)
   stands_still n e h = record {
     states = h.states;
     assigns = subst (λ (past : History). Assigns e.layout past h.states) same h.assigns;
@@ -103,20 +104,20 @@ module _ {D : Type 0} (outlast : NodesOutlastFailures) (honest : D → Type 0) (
     gates = h.gates;
   }
 
-  engine_still : (n : Node) (e : Engine D) → EngineHolds honest history failures n (upon new e) → EngineHolds honest history failures (recounted (failures old) n) (upon old e)
+  engine_still : (n : Node) (e : Engine D) → EngineHolds g n (upon new e) → EngineHolds g (recounted (g.failures old) n) (upon old e)
   engine_still n e h = record {
     is_honest = is_honest;
-    facts = ap (counted (failures old)) h.facts;
-    node = outlast (failures old) n h.node;
+    facts = ap (counted (g.failures old)) h.facts;
+    node = outlast (g.failures old) n h.node;
     runs = λ none. stands_still n e (h.runs refl);
-    images = λ image is. front_still (failures old) n image (h.images image (subst (λ (past : History). IsImage past image) (sym same) is));
+    images = λ image is. front_still (g.failures old) n image (h.images image (subst (λ (past : History). IsImage past image) (sym same) is));
   }
 
-  holds_still : (n : Node) (r : Replica D) → Holds honest history failures n (on_disk new r) → Holds honest history failures (recounted (failures old) n) (on_disk old r)
+  holds_still : (n : Node) (r : Replica D) → Holds g n (on_disk new r) → Holds g (recounted (g.failures old) n) (on_disk old r)
   holds_still n r h = record {
     running = refl;
-    facts = ap (counted (failures old)) h.facts;
-    node = outlast (failures old) n h.node;
+    facts = ap (counted (g.failures old)) h.facts;
+    node = outlast (g.failures old) n h.node;
     judged = h.judged;
     taken = h.taken;
     within = h.within;
@@ -125,9 +126,9 @@ module _ {D : Type 0} (outlast : NodesOutlastFailures) (honest : D → Type 0) (
     windows = h.windows;
   }
 
-  are_still : (r : Replica D) (p : Setting) (L : Order) → HasRowsOf honest history failures (on_disk new r) p L → HasRowsOf honest history failures (on_disk old r) p L
+  are_still : (r : Replica D) (p : Setting) (L : Order) → HasRowsOf g (on_disk new r) p L → HasRowsOf g (on_disk old r) p L
   are_still r p L h = record {
-    node = recounted (failures old) h.node;
+    node = recounted (g.failures old) h.node;
     order = h.order;
     holds = holds_still h.node r h.holds;
     is_of = record { within = h.is_of.within; base = h.is_of.base; items = h.is_of.items };
@@ -137,23 +138,23 @@ module _ {D : Type 0} (outlast : NodesOutlastFailures) (honest : D → Type 0) (
 
 -- ---- the law
 
-module _ {D : Type 0} (size failures : D → ℕ) (honest : D → Type 0) (history : D → History) (outlast : NodesOutlastFailures) (follow : StepsFollowTheOrder) where
+module _ {D : Type 0} (g : Ghosts D) (outlast : NodesOutlastFailures) (follow : StepsFollowTheOrder) where
   -- of a stopped replica it is said as of the same one that runs
-  as_running : (r : Replica D) (p : Setting) (L : Order) → HasRowsOf honest history failures r p L → HasRowsOf honest history failures (running r) p L
+  as_running : (r : Replica D) (p : Setting) (L : Order) → HasRowsOf g r p L → HasRowsOf g (running r) p L
   as_running r p L h = record { node = h.node; order = h.order; holds = h.holds; is_of = h.is_of; setting = h.setting; durable = h.durable }
 
-  as_stopped : (r : Replica D) (p : Setting) (L : Order) → HasRowsOf honest history failures (running r) p L → HasRowsOf honest history failures r p L
+  as_stopped : (r : Replica D) (p : Setting) (L : Order) → HasRowsOf g (running r) p L → HasRowsOf g r p L
   as_stopped r p L h = record { node = h.node; order = h.order; holds = h.holds; is_of = h.is_of; setting = h.setting; durable = h.durable }
 
   -- an order whose rows the replica has behind a read is one whose rows it had before
-  forgets : (a b : Replica D) (key : Key) (s : ℕ) (answer : Result (Option (List ℕ)) Refusal) (p : Setting) (L : Order) → IsRead size failures honest history a key s answer b → HasRowsOf honest history failures b p L → HasRowsOf honest history failures a p L
+  forgets : (a b : Replica D) (key : Key) (s : ℕ) (answer : Result (Option (List ℕ)) Refusal) (p : Setting) (L : Order) → IsRead g a key s answer b → HasRowsOf g b p L → HasRowsOf g a p L
   forgets a b key s answer p L h of =
       let new = b.engine.disk in
       let old = a.engine.disk in
-      let was_honest : honest old = h.call.was_honest of.holds.engine.is_honest in
-      let ran : HasRowsOf honest history failures (running b) p L = as_running b p L of in
-      let moved : HasRowsOf honest history failures (on_disk new a) p L = subst (λ (r : Replica D). HasRowsOf honest history failures (running r) p L) h.rest ran in
-      as_stopped a p L (are_still outlast honest history failures old new was_honest (h.same was_honest) a p L moved)
+      let was_honest : g.honest old = h.call.was_honest of.holds.engine.is_honest in
+      let ran : HasRowsOf g (running b) p L = as_running b p L of in
+      let moved : HasRowsOf g (on_disk new a) p L = subst (λ (r : Replica D). HasRowsOf g (running r) p L) h.rest ran in
+      as_stopped a p L (are_still outlast g old new was_honest (h.same was_honest) a p L moved)
 
   -- where a row is answered, it runs
   runs : (a : Replica D) (stopped : Bool) (halted : Option Phase) → a.stopped ≡ stopped → a.engine.halted ≡ halted → ((stopped || is_some halted) ≡ true → ⊥) → running a ≡ a
@@ -162,13 +163,13 @@ module _ {D : Type 0} (size failures : D → ℕ) (honest : D → Type 0) (histo
   runs a false None is_stopped is_halted never = ap (λ (stopped : Bool). record a { engine = record a.engine { halted = None }; stopped = stopped }) (sym is_stopped) ∙ ap (λ (halted : Option Phase). record a { engine = record a.engine { halted = halted } }) (sym is_halted)
 
   -- a row that it answers is the row of each order that begins with what is durable there
-  reads : (a b : Replica D) (key : Key) (s : ℕ) (answer : Result (Option (List ℕ)) Refusal) (x : Option (List ℕ)) (p : Setting) (L : Order) → IsRead size failures honest history a key s answer b → answer ≡ Ok x
-      → HasRowsOf honest history failures b p L → x ≡ read p L key s
+  reads : (a b : Replica D) (key : Key) (s : ℕ) (answer : Result (Option (List ℕ)) Refusal) (x : Option (List ℕ)) (p : Setting) (L : Order) → IsRead g a key s answer b → answer ≡ Ok x
+      → HasRowsOf g b p L → x ≡ read p L key s
   reads a b key s answer x p L h is_ok behind =
-      let of : HasRowsOf honest history failures a p L = forgets a b key s answer p L h behind in
+      let of : HasRowsOf g a p L = forgets a b key s answer p L h behind in
       let same : running a ≡ a = runs a a.stopped a.engine.halted refl refl (λ stopped. never (sym is_ok ∙ (h.stopped stopped).0)) in
-      let holds : Holds honest history failures of.node a = subst (Holds honest history failures of.node) same of.holds in
-      let found = read_follows honest history failures follow a b key s answer h.step of.node of.order x holds of.is_of is_ok in
+      let holds : Holds g of.node a = subst (Holds g of.node) same of.holds in
+      let found = read_follows g follow a b key s answer h.step of.node of.order x holds of.is_of is_ok in
       let d = of.node.facts.durable in
       let front : (K : Order) → take s (take d K) ≡ take s K = λ K. take-take s d K found.0 in
       let items : take s of.order ≡ take s L = sym (front of.order) ∙ ap (take s) (sym of.durable) ∙ front L in
@@ -177,5 +178,5 @@ module _ {D : Type 0} (size failures : D → ℕ) (honest : D → Type 0) (histo
       never : (let answer : Result (Option (List ℕ)) Refusal = Ok x in answer ≡ Err Stopped) → ⊥
       never e = cc
 
-  pub reads_forget : ReadsForgetNothing size failures honest history
+  pub reads_forget : ReadsForgetNothing g
   reads_forget = record { forgets = forgets; rows = reads }

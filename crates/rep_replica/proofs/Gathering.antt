@@ -3,7 +3,7 @@ use Rattle.std.proofs.Common.{◌≡◌, ℕ, ◌+◌, ◌-◌, ◌≤◌, List,
 use Rattle.std.specs.Prelude.{◌||◌}
 use Rattle.std.proofs.lemmas.List.{take-append-drop, drop-drop}
 use Rattle.rep_types.specs.declared.judged.Judged.{Judged}
-use Rattle.rep_disk.specs.History.{History}
+use Rattle.rep_disk.specs.declared.disk.Disk.{Ghosts}
 use Rattle.rep_record.specs.Fronts.{fitting}
 use Rattle.rep_log.specs.declared.phase.Phase.{Phase}
 use Rattle.rep_log.specs.declared.phase.Phase.TheVariants.{Resting}
@@ -39,14 +39,14 @@ takes_as_all front phase block js fits rests =
 -- ---- items that are accepted
 
 -- An engine after it accepted items, and before.
-pub record Accepts {D : Type 0} (honest : D → Type 0) (history : D → History) (failures : D → ℕ) (count : ℕ) (js : List Judged) (old new : Engine D) : Type 0 where
+pub record Accepts {D : Type 0} (g : Ghosts D) (count : ℕ) (js : List Judged) (old new : Engine D) : Type 0 where
   pub within : count ≤ length js
-  pub facts : engine_facts failures new ≡ record (engine_facts failures old) { ahead = old.block ++ take count js }
+  pub facts : engine_facts g new ≡ record (engine_facts g old) { ahead = old.block ++ take count js }
   pub block : new.block ≡ old.block ++ take count js
-  pub holds : (n : Node) → EngineHolds honest history failures n old → AreJudgedFrom n.facts.setting (reached n.facts.setting n.base n.items) (take count js) → EngineHolds honest history failures (with_items (take count js) n) new
+  pub holds : (n : Node) → EngineHolds g n old → AreJudgedFrom n.facts.setting (reached n.facts.setting n.base n.items) (take count js) → EngineHolds g (with_items (take count js) n) new
 
-module _ {D : Type 0} (honest : D → Type 0) (history : D → History) (failures : D → ℕ) (count : ℕ) (old new : Replica D) (backlog : new.backlog ≡ drop count old.backlog) (certifier : new.certifier ≡ old.certifier) (stopped : new.stopped ≡ old.stopped)
-    (accepts : Accepts honest history failures count old.backlog old.engine new.engine) where
+module _ {D : Type 0} (g : Ghosts D) (count : ℕ) (old new : Replica D) (backlog : new.backlog ≡ drop count old.backlog) (certifier : new.certifier ≡ old.certifier) (stopped : new.stopped ≡ old.stopped)
+    (accepts : Accepts g count old.backlog old.engine new.engine) where
   -- what was delivered is as it was
   pub same_ahead : new.engine.block ++ new.backlog ≡ old.engine.block ++ old.backlog
   same_ahead =
@@ -54,14 +54,14 @@ module _ {D : Type 0} (honest : D → Type 0) (history : D → History) (failure
       ap (λ (xs : List Judged). xs ++ new.backlog) accepts.block ∙ ap (λ (ys : List Judged). (old.engine.block ++ take count js) ++ ys) backlog ∙ append_assoc old.engine.block (take count js) (drop count js)
       ∙ ap (λ (xs : List Judged). old.engine.block ++ xs) (take-append-drop count js)
 
-  pub same_facts : facts_of failures new ≡ facts_of failures old
+  pub same_facts : facts_of g new ≡ facts_of g old
   same_facts =
-      ap (λ b. record (engine_facts failures new.engine) { ahead = new.engine.block ++ new.backlog; stopped = b || (engine_facts failures new.engine).stopped }) stopped
-      ∙ ap (λ (xs : List Judged). record (engine_facts failures new.engine) { ahead = xs; stopped = old.stopped || (engine_facts failures new.engine).stopped }) same_ahead
+      ap (λ b. record (engine_facts g new.engine) { ahead = new.engine.block ++ new.backlog; stopped = b || (engine_facts g new.engine).stopped }) stopped
+      ∙ ap (λ (xs : List Judged). record (engine_facts g new.engine) { ahead = xs; stopped = old.stopped || (engine_facts g new.engine).stopped }) same_ahead
       ∙ ap (λ (s : Standing). record s { ahead = old.engine.block ++ old.backlog; stopped = old.stopped || s.stopped }) accepts.facts
 
   -- and the replica stands for the same node
-  pub holds_still : JudgingGoesOn → (n : Node) → Holds honest history failures n old → Holds honest history failures n new
+  pub holds_still : JudgingGoesOn → (n : Node) → Holds g n old → Holds g n new
   holds_still goes n holds =
       let q = holds.taken in
       let js = old.backlog in
@@ -70,7 +70,7 @@ module _ {D : Type 0} (honest : D → Type 0) (history : D → History) (failure
       let come : take count js ≡ take count (drop q n.items) = ap (take count) holds.waiting in
       let judged : AreJudgedFrom p (reached p n.base (take q n.items)) (take count js) =
       subst (AreJudgedFrom p (reached p n.base (take q n.items))) (sym come) (goes.judged_front p (reached p n.base (take q n.items)) count (drop q n.items) (goes.judged_behind p n.base q n.items holds.judged)) in
-      let engine : EngineHolds honest history failures (with_items (take count js) (part_of old.engine.block q n)) new.engine = accepts.holds (part_of old.engine.block q n) holds.engine judged in
+      let engine : EngineHolds g (with_items (take count js) (part_of old.engine.block q n)) new.engine = accepts.holds (part_of old.engine.block q n) holds.engine judged in
       let items : take q n.items ++ take count js ≡ take (q + count) n.items = ap (λ (xs : List Judged). take q n.items ++ xs) come ∙ take_plus q count n.items in
       let part : with_items (take count js) (part_of old.engine.block q n) ≡ part_of new.engine.block (q + count) n =
       ap (λ (xs : List Judged). record n { facts = with_ahead (old.engine.block ++ take count js) n.facts; items = xs }) items ∙ ap (λ (xs : List Judged). part_of xs (q + count) n) (sym accepts.block) in
@@ -81,7 +81,7 @@ module _ {D : Type 0} (honest : D → Type 0) (history : D → History) (failure
         judged = holds.judged;
         taken = q + count;
         within = omega (arith, left, accepts.within, holds.within);
-        engine = subst (λ (m : Node). EngineHolds honest history failures m new.engine) part engine;
+        engine = subst (λ (m : Node). EngineHolds g m new.engine) part engine;
         waiting = backlog ∙ ap (drop count) holds.waiting ∙ drop-drop count q n.items;
         windows = subst (λ (h : Holdings). (k : ℕ) → n.base.position ≤ k → IsAskable h.current k → window_of h.current k ≡ window_at n k) (sym certifier) holds.windows;
       }

@@ -11,10 +11,12 @@ use Rattle.rep_types.specs.declared.limits.TheConstants.{MAX_SEQNO}
 use Rattle.rep_types.specs.Settings.{Setting}
 use Rattle.rep_types.specs.Order.{State}
 use Rattle.rep_types.specs.Windows.{Window}
+use Rattle.rep_disk.specs.declared.disk.Disk.{Ghosts}
 use Rattle.rep_disk.specs.History.{History}
-use Rattle.rep_disk.specs.Calls.{Rises, IsCall}
+use Rattle.rep_disk.specs.Calls.{Rises}
 use Rattle.rep_disk.specs.Moments.{LeavesOnly}
 use Rattle.rep_disk.specs.Leaving.{leaves_none, leaves_then}
+use Rattle.rep_disk.specs.Devices.{Calls}
 use Rattle.rep_layout.specs.declared.super_body.SuperBody.{SuperBody}
 use Rattle.rep_cert.specs.Holdings.{Holding, Holdings, IsAskable, window_of, made_at}
 use Rattle.rep_log.specs.declared.phase.Phase.{Phase}
@@ -32,7 +34,7 @@ use Rattle.rep_checkpoint.specs.declared.stage.Stage.TheVariants.{Off, Toward, R
 use Rattle.rep_checkpoint.specs.Standing.{stage_in}
 use Rattle.rep_checkpoint.specs.Coming.{coming}
 use Rattle.rep_checkpoint.specs.Arriving.{installed}
-use Rattle.rep_engine.specs.Engines.{Engine, facts_of as engine_facts, durable_of, phase_at}
+use Rattle.rep_engine.specs.Engines.{Engine, facts_of as engine_facts, durable_of, phase_at, Halts}
 use Rattle.rep_engine.specs.Holding.{Holds as EngineHolds}
 use Rattle.rep_engine.specs.Checking.{CertifiersHoldWindows, HoldsWindows}
 use Rattle.rep_engine.specs.Installing.{CanBring, IsBeside, IsTaken, HoldsEither, MeansEither, TakesPlace, snapshot_of}
@@ -77,8 +79,8 @@ pub record Rests {D : Type 0} (r : Replica D) : Type 0 where
   pub backlog : r.backlog ≡ []
   pub off : r.engine.checkpoint.stage ≡ Off
 
-pub quiet_rests : {D : Type 0} (failures : D → ℕ) (r : Replica D) → is_quiet (facts_of failures r) ≡ true → Rests r
-quiet_rests failures r quiet =
+pub quiet_rests : {D : Type 0} (g : Ghosts D) (r : Replica D) → is_quiet (facts_of g r) ≡ true → Rests r
+quiet_rests g r quiet =
     let parts = both (length (r.engine.block ++ r.backlog) == 0) (is_off (stage_in r.engine.checkpoint.stage)) quiet in
     let none = neither r.engine.block r.backlog (empty (r.engine.block ++ r.backlog) parts.0) in
     record { block = none.0; backlog = none.1; off = rests_off r.engine.checkpoint.stage parts.1 }
@@ -92,26 +94,26 @@ part_all n block q ahead all = ap (λ (js : List Judged). record n { facts = rec
 take_whole : (q : ℕ) (js : List Judged) → drop q js ≡ [] → take q js ≡ js
 take_whole q js none = sym (append-nil (take q js)) ∙ ap (λ (rest : List Judged). take q js ++ rest) (sym none) ∙ take-append-drop q js
 
-pub engine_whole : {D : Type 0} (honest : D → Type 0) (history : D → History) (failures : D → ℕ) (n : Node) (r : Replica D) → Rests r → Holds honest history failures n r → EngineHolds honest history failures n r.engine
-engine_whole honest history failures n r rests holds =
+pub engine_whole : {D : Type 0} (g : Ghosts D) (n : Node) (r : Replica D) → Rests r → Holds g n r → EngineHolds g n r.engine
+engine_whole g n r rests holds =
     let ahead : r.engine.block ≡ n.facts.ahead = sym (append-nil r.engine.block) ∙ ap (λ (js : List Judged). r.engine.block ++ js) (sym rests.backlog) ∙ sym (ap (λ (s : Standing). s.ahead) holds.facts) in
-    subst (λ (m : Node). EngineHolds honest history failures m r.engine) (part_all n r.engine.block holds.taken ahead (take_whole holds.taken n.items (sym holds.waiting ∙ rests.backlog))) holds.engine
+    subst (λ (m : Node). EngineHolds g m r.engine) (part_all n r.engine.block holds.taken ahead (take_whole holds.taken n.items (sym holds.waiting ∙ rests.backlog))) holds.engine
 
 -- ---- given up
 
-facts_alone : {D : Type 0} (failures : D → ℕ) (e : Engine D) (certifier : Holdings) → facts_of failures (record { engine = e; backlog = []; certifier = certifier; stopped = false }) ≡ engine_facts failures e
-facts_alone failures e certifier = ap (λ (js : List Judged). record (engine_facts failures e) { ahead = js }) (append-nil e.block)
+facts_alone : {D : Type 0} (g : Ghosts D) (e : Engine D) (certifier : Holdings) → facts_of g (record { engine = e; backlog = []; certifier = certifier; stopped = false }) ≡ engine_facts g e
+facts_alone g e certifier = ap (λ (js : List Judged). record (engine_facts g e) { ahead = js }) (append-nil e.block)
 
-pub held_alone : {D : Type 0} (honest : D → Type 0) (history : D → History) (failures : D → ℕ) (n : Node) (e : Engine D) (certifier : Holdings) → EngineHolds honest history failures n e → AreJudgedFrom n.facts.setting n.base n.items
-    → ((k : ℕ) → n.base.position ≤ k → IsAskable certifier.current k → window_of certifier.current k ≡ window_at n k) → Holds honest history failures n (record { engine = e; backlog = []; certifier = certifier; stopped = false })
-held_alone {D} honest history failures n e certifier h judged windows = record {
+pub held_alone : {D : Type 0} (g : Ghosts D) (n : Node) (e : Engine D) (certifier : Holdings) → EngineHolds g n e → AreJudgedFrom n.facts.setting n.base n.items
+    → ((k : ℕ) → n.base.position ≤ k → IsAskable certifier.current k → window_of certifier.current k ≡ window_at n k) → Holds g n (record { engine = e; backlog = []; certifier = certifier; stopped = false })
+held_alone {D} g n e certifier h judged windows = record {
   running = refl;
-  facts = h.facts ∙ sym (facts_alone failures e certifier);
+  facts = h.facts ∙ sym (facts_alone g e certifier);
   node = h.node;
   judged = judged;
   taken = length n.items;
   within = omega arith;
-  engine = subst (λ (m : Node). EngineHolds honest history failures m e) (sym (part_all n e.block (length n.items) (sym (ap (λ (s : Standing). s.ahead) h.facts)) (take_all (length n.items) n.items (omega arith)))) h;
+  engine = subst (λ (m : Node). EngineHolds g m e) (sym (part_all n e.block (length n.items) (sym (ap (λ (s : Standing). s.ahead) h.facts)) (take_all (length n.items) n.items (omega arith)))) h;
   waiting = sym (drop_all (length n.items) n.items (omega arith));
   windows = windows;
 }
@@ -119,8 +121,8 @@ held_alone {D} honest history failures n e certifier h judged windows = record {
 -- ---- installed
 
 -- the window of a certifier that is made at the snapshot, and the node's there
-module _ {D : Type 0} (honest : D → Type 0) (history : D → History) (failures : D → ℕ) (law : CertifiersHoldWindows) (n : Node) (y : State) (b : Bringing D) (holds : HoldsBoth honest history failures n y b) (runs : b.engine.halted ≡ None)
-    (is : IsBringing (engine_facts failures b.engine) b.coming b.before b.after) (beside : IsBeside b.engine.checkpoint b.engine.log b.engine.block b.coming) where
+module _ {D : Type 0} (g : Ghosts D) (law : CertifiersHoldWindows) (n : Node) (y : State) (b : Bringing D) (holds : HoldsBoth g n y b) (runs : b.engine.halted ≡ None)
+    (is : IsBringing (engine_facts g b.engine) b.coming b.before b.after) (beside : IsBeside b.engine.checkpoint b.engine.log b.engine.block b.coming) where
   abbrev super : SuperBody
   super = b.coming.next.super
 
@@ -147,8 +149,8 @@ module _ {D : Type 0} (honest : D → Type 0) (history : D → History) (failure
       ∙ law.first p super.position b.coming.next.window is.window ∙ sym (state_there k ∙ kept_is)
 
   -- the replica over the engine that it leaves
-  pub held_there : (e : Engine D) → EngineHolds honest history failures m e → Holds honest history failures m (record { engine = e; backlog = []; certifier = b.after; stopped = false })
-  held_there e h = held_alone honest history failures m e b.after h tt windows_there
+  pub held_there : (e : Engine D) → EngineHolds g m e → Holds g m (record { engine = e; backlog = []; certifier = b.after; stopped = false })
+  held_there e h = held_alone g m e b.after h tt windows_there
 
   ahead_none : n.facts.ahead ≡ []
   ahead_none = ap (λ (s : Standing). s.ahead) holds.engine.facts ∙ beside.none
@@ -181,7 +183,7 @@ module _ {D : Type 0} (honest : D → Type 0) (history : D → History) (failure
           ∙ ap (λ (z : State). meaning super.uuid super.params z f.meaning.tail) front ∙ ap (meaning super.uuid super.params y) tail
 
   -- so what is left of it is one of the two
-  pub either_there : (r : Replica D) → LeavesFronts honest history m r → HoldsEither honest history n super y r.engine
+  pub either_there : (r : Replica D) → LeavesFronts g m r → HoldsEither g n super y r.engine
   either_there r left = record { is_honest = left.is_honest; images = λ image here. inr (means_it image (left.images image here)) }
 
   pub leaves_there : (old mid new : History) → LeavesOnly old mid (MeansEither n super y) → LeavesOnly mid new (IsFrontAt Means m) → LeavesOnly old new (MeansEither n super y)
@@ -189,29 +191,29 @@ module _ {D : Type 0} (honest : D → Type 0) (history : D → History) (failure
 
 -- ---- on any device
 
-module _ {D : Type 0} (failures : D → ℕ) (b : Bringing D) (e : Engine D) (taken : IsTaken b.coming b.engine e) (beside : IsBeside b.engine.checkpoint b.engine.log b.engine.block b.coming) (runs : b.engine.halted ≡ None) where
-  pub setting_there : (engine_facts failures e).setting ≡ b.engine.checkpoint.base.params
+module _ {D : Type 0} (g : Ghosts D) (b : Bringing D) (e : Engine D) (taken : IsTaken b.coming b.engine e) (beside : IsBeside b.engine.checkpoint b.engine.log b.engine.block b.coming) (runs : b.engine.halted ≡ None) where
+  pub setting_there : (engine_facts g e).setting ≡ b.engine.checkpoint.base.params
   setting_there = ap (λ (x : Engine D). x.checkpoint.base.params) taken.rest ∙ beside.coming.params
 
-  pub durable_there : (engine_facts failures e).durable ≡ b.coming.next.super.position
+  pub durable_there : (engine_facts g e).durable ≡ b.coming.next.super.position
   durable_there = let behind : b.coming.next.super.position + 1 - 1 ≡ b.coming.next.super.position = omega arith in ap (λ (x : Engine D). durable_of x.log) taken.rest ∙ behind
 
-  pub phase_there : (engine_facts failures e).phase ≡ Resting
+  pub phase_there : (engine_facts g e).phase ≡ Resting
   phase_there = ap (λ (x : Engine D). phase_at x.log.phase x.halted) taken.rest ∙ ap (phase_at b.engine.log.phase) runs ∙ beside.resting
 
-  pub stage_there : (engine_facts failures e).stage ≡ is_retiring false
+  pub stage_there : (engine_facts g e).stage ≡ is_retiring false
   stage_there = ap (λ (x : Engine D). stage_in x.checkpoint.stage) taken.rest
 
-  pub ahead_there : (engine_facts failures e).ahead ≡ []
+  pub ahead_there : (engine_facts g e).ahead ≡ []
   ahead_there = ap (λ (x : Engine D). x.block) taken.rest ∙ beside.none
 
   pub running_there : e.halted ≡ None
   running_there = ap (λ (x : Engine D). x.halted) taken.rest ∙ runs
 
   -- it stands where the snapshot is
-  pub is_at : (s : Standing) (certifier : Holdings) → s ≡ record (facts_of failures (record { engine = e; backlog = []; certifier = certifier; stopped = false })) { stage = is_off_stage } → IsAt b.coming.next.super s
+  pub is_at : (s : Standing) (certifier : Holdings) → s ≡ record (facts_of g (record { engine = e; backlog = []; certifier = certifier; stopped = false })) { stage = is_off_stage } → IsAt b.coming.next.super s
   is_at s certifier is =
-      let alone : s ≡ record (engine_facts failures e) { stage = is_off_stage } = is ∙ ap (λ (t : Standing). record t { stage = is_off_stage }) (facts_alone failures e certifier) in
+      let alone : s ≡ record (engine_facts g e) { stage = is_off_stage } = is ∙ ap (λ (t : Standing). record t { stage = is_off_stage }) (facts_alone g e certifier) in
       let none = ahead_there in
       record {
         uuid = ap (λ (t : Standing). t.uuid) alone ∙ ap (λ (x : Engine D). x.checkpoint.base.uuid) taken.rest;
@@ -223,10 +225,10 @@ module _ {D : Type 0} (failures : D → ℕ) (b : Bringing D) (e : Engine D) (ta
       }
 
 pub lands_there :
-    {D : Type 0} (failures : D → ℕ) (b : Bringing D) (e : Engine D) → IsTaken b.coming b.engine e → IsBeside b.engine.checkpoint b.engine.log b.engine.block b.coming → b.engine.halted ≡ None → (certifier : Holdings) (new : Replica D) (result : Result (Unit {0}) Refusal)
-    → OnOk result (facts_of failures new ≡ record (facts_of failures (record { engine = e; backlog = []; certifier = certifier; stopped = false })) { stage = is_off_stage }) → IfErr result (λ r. (r ≡ DiskFault) × ((facts_of failures new).stopped ≡ true)) → Lands failures b new result
-lands_there failures b e taken beside runs certifier new (Ok x) done fault = record { done = is_at failures b e taken beside runs (facts_of failures new) certifier done; fault = tt }
-lands_there failures b e taken beside runs certifier new (Err r) done fault = record { done = tt; fault = fault }
+    {D : Type 0} (g : Ghosts D) (b : Bringing D) (e : Engine D) → IsTaken b.coming b.engine e → IsBeside b.engine.checkpoint b.engine.log b.engine.block b.coming → b.engine.halted ≡ None → (certifier : Holdings) (new : Replica D) (result : Result (Unit {0}) Refusal)
+    → OnOk result (facts_of g new ≡ record (facts_of g (record { engine = e; backlog = []; certifier = certifier; stopped = false })) { stage = is_off_stage }) → IfErr result (λ r. (r ≡ DiskFault) × ((facts_of g new).stopped ≡ true)) → Lands g b new result
+lands_there g b e taken beside runs certifier new (Ok x) done fault = record { done = is_at g b e taken beside runs (facts_of g new) certifier done; fault = tt }
+lands_there g b e taken beside runs certifier new (Err r) done fault = record { done = tt; fault = fault }
 
 -- ---- what is so of replicas
 
@@ -260,9 +262,9 @@ never_err {A} {B} {P} {result} {a} {b} ok err = absurd (let never : ◌≡◌ {A
 -- ---- where it begins
 
 -- the certifier that goes on is made at the snapshot
-pub is_bringing : {D : Type 0} (failures : D → ℕ) (e : Engine D) (uuid : List ℕ) (position : ℕ) (v : Window) (before after : Holdings) → CanBring e.checkpoint.base (durable_of e.log) uuid position v → IsReplica (engine_facts failures e) [] before.current false
-    → after.current ≡ made_at e.checkpoint.base.params position v → IsBringing (engine_facts failures e) (coming e.checkpoint.base uuid position e.log.next v) before after
-is_bringing failures e uuid position v before after can replica made = record {
+pub is_bringing : {D : Type 0} (g : Ghosts D) (e : Engine D) (uuid : List ℕ) (position : ℕ) (v : Window) (before after : Holdings) → CanBring e.checkpoint.base (durable_of e.log) uuid position v → IsReplica (engine_facts g e) [] before.current false
+    → after.current ≡ made_at e.checkpoint.base.params position v → IsBringing (engine_facts g e) (coming e.checkpoint.base uuid position e.log.next v) before after
+is_bringing g e uuid position v before after can replica made = record {
   replica = replica;
   window = can.window;
   made = made;
@@ -271,9 +273,9 @@ is_bringing failures e uuid position v before after can replica made = record {
 -- ---- where it ends
 
 -- a device that was asked or failed leaves a replica one
-pub replica_still : {D : Type 0} (failures : D → ℕ) (old : Engine D) (disk : D) (halted : Option Phase) (backlog : List Judged) (h : Holding) → IsReplica (engine_facts failures old) backlog h false
-    → IsReplica (engine_facts failures (record old { disk = disk; halted = halted })) backlog h false
-replica_still failures old disk halted backlog h r = record {
+pub replica_still : {D : Type 0} (g : Ghosts D) (old : Engine D) (disk : D) (halted : Option Phase) (backlog : List Judged) (h : Holding) → IsReplica (engine_facts g old) backlog h false
+    → IsReplica (engine_facts g (record old { disk = disk; halted = halted })) backlog h false
+replica_still g old disk halted backlog h r = record {
   setting = r.setting;
   askable = r.askable;
   windows = r.windows;
@@ -283,29 +285,29 @@ replica_still failures old disk halted backlog h r = record {
 }
 
 -- over what the snapshot made of the engine goes a certifier that was made there
-pub replica_there : {D : Type 0} (failures : D → ℕ) → CertifiersHoldWindows → (b : Bringing D) (e : Engine D) → IsTaken b.coming b.engine e → IsBeside b.engine.checkpoint b.engine.log b.engine.block b.coming → b.engine.halted ≡ None
-    → IsBringing (engine_facts failures b.engine) b.coming b.before b.after → IsReplica (engine_facts failures e) [] b.after.current false
-replica_there failures law b e taken beside runs is =
+pub replica_there : {D : Type 0} (g : Ghosts D) → CertifiersHoldWindows → (b : Bringing D) (e : Engine D) → IsTaken b.coming b.engine e → IsBeside b.engine.checkpoint b.engine.log b.engine.block b.coming → b.engine.halted ≡ None
+    → IsBringing (engine_facts g b.engine) b.coming b.before b.after → IsReplica (engine_facts g e) [] b.after.current false
+replica_there g law b e taken beside runs is =
     let p = b.engine.checkpoint.base.params in
     let position = b.coming.next.super.position in
     let v = b.coming.next.window in
-    let durable = durable_there failures b e taken beside runs in
-    let ahead : length (engine_facts failures e).ahead ≡ 0 = ap length (ahead_there failures b e taken beside runs) in
+    let durable = durable_there g b e taken beside runs in
+    let ahead : length (engine_facts g e).ahead ≡ 0 = ap length (ahead_there g b e taken beside runs) in
     record {
-      setting = ap (λ (h : Holding). h.setting) is.made ∙ sym (setting_there failures b e taken beside runs);
-      askable = subst (λ (h : Holding). IsAskable h (engine_facts failures e).durable) (sym is.made) (record { made = omega (arith, durable); near = omega (arith, durable); past = omega (arith, durable) });
+      setting = ap (λ (h : Holding). h.setting) is.made ∙ sym (setting_there g b e taken beside runs);
+      askable = subst (λ (h : Holding). IsAskable h (engine_facts g e).durable) (sym is.made) (record { made = omega (arith, durable); near = omega (arith, durable); past = omega (arith, durable) });
       windows = subst HoldsWindows (sym is.made) (law.made p position v is.window);
-      items = λ inside. none_come (engine_facts failures e) b.after.current (omega (arith, ahead, durable, beside.coming.is_super.position)) (ap (λ (h : Holding). h.delivered) is.made ∙ omega (arith, ahead, durable));
+      items = λ inside. none_come (engine_facts g e) b.after.current (omega (arith, ahead, durable, beside.coming.is_super.position)) (ap (λ (h : Holding). h.delivered) is.made ∙ omega (arith, ahead, durable));
     }
 
 -- what stands beside an engine whose device failed is either
-pub either_still : {D : Type 0} (honest : D → Type 0) (history : D → History) (failures : D → ℕ) (n : Node) (y : State) (b : Bringing D) (r : Replica D) (e : Refusal) → r.engine ≡ b.engine → HoldsBoth honest history failures n y b → Installs honest history failures n y b r (Err e)
-either_still {D} honest history failures n y b r e same holds =
-    let left : HoldsEither honest history n b.coming.next.super y b.engine = record { is_honest = holds.engine.is_honest; images = λ image here. by image (holds.engine.images image here) } in
+pub either_still : {D : Type 0} (g : Ghosts D) (n : Node) (y : State) (b : Bringing D) (r : Replica D) (e : Refusal) → r.engine ≡ b.engine → HoldsBoth g n y b → Installs g n y b r (Err e)
+either_still {D} g n y b r e same holds =
+    let left : HoldsEither g n b.coming.next.super y b.engine = record { is_honest = holds.engine.is_honest; images = λ image here. by image (holds.engine.images image here) } in
     record {
       holds = tt;
-      either = subst (λ (x : Engine D). HoldsEither honest history n b.coming.next.super y x) (sym same) left;
-      leaves = subst (λ (x : Engine D). LeavesOnly (history b.engine.disk) (history x.disk) (MeansEither n b.coming.next.super y)) (sym same) (leaves_none (history b.engine.disk) (history b.engine.disk) refl);
+      either = subst (λ (x : Engine D). HoldsEither g n b.coming.next.super y x) (sym same) left;
+      leaves = subst (λ (x : Engine D). LeavesOnly (g.history b.engine.disk) (g.history x.disk) (MeansEither n b.coming.next.super y)) (sym same) (leaves_none (g.history b.engine.disk) (g.history b.engine.disk) refl);
     }
   where
     by : (image : List ℕ) → IsFrontAt Means n image ⊎ ((b.coming.part ≡ SuperOpening) × Means image (snapshot_of b.coming.next.super y)) → MeansEither n b.coming.next.super y image
@@ -313,17 +315,17 @@ either_still {D} honest history failures n y b r e same holds =
     by image (inr m) = inr m.1
 
 -- where the device failed before the snapshot took the base's place
-pub lands_failed : {D : Type 0} (failures : D → ℕ) (b : Bringing D) (e : Engine D) (backlog : List Judged) (certifier : Holdings) (result : Result (Unit {0}) Refusal) → IsErr result
-    → IfErr result (λ r. (r ≡ DiskFault) × (e ≡ record b.engine { disk = e.disk; halted = Some b.engine.log.phase })) → Lands failures b (record { engine = e; backlog = backlog; certifier = certifier; stopped = false }) result
-lands_failed failures b e backlog certifier (Ok x) err h = absurd cc
-lands_failed {D} failures b e backlog certifier (Err r) err h = record { done = tt; fault = (h.0, ap (λ (x : Engine D). is_some x.halted) h.1) }
+pub lands_failed : {D : Type 0} (g : Ghosts D) (b : Bringing D) (e : Engine D) (backlog : List Judged) (certifier : Holdings) (result : Result (Unit {0}) Refusal) → IsErr result
+    → IfErr result (λ r. (r ≡ DiskFault) × (Halts b.engine e)) → Lands g b (record { engine = e; backlog = backlog; certifier = certifier; stopped = false }) result
+lands_failed g b e backlog certifier (Ok x) err h = absurd cc
+lands_failed {D} g b e backlog certifier (Err r) err h = record { done = tt; fault = (h.0, ap (λ (x : Engine D). is_some x.halted) h.1) }
 
 -- what the engine tells of its device is told
-pub told_by : {D : Type 0} (size failures : D → ℕ) (honest : D → Type 0) (b : Bringing D) (e : Engine D) (result : Result (Unit {0}) Refusal) → IfErr result (λ r. (r ≡ DiskFault) × (e ≡ record b.engine { disk = e.disk; halted = Some b.engine.log.phase }))
-    → IsCall size failures honest b.engine.disk e.disk (fault_of result) → TellsFaults (failures b.engine.disk) (failures e.disk) result
-told_by size failures honest b e (Ok x) fault call = call.no_cause refl
-told_by size failures honest b e (Err r) fault call =
-    let rose : IsErr (fault_of {T = Unit {0}} (Err r)) → Rises (failures b.engine.disk) (failures e.disk) = call.cause in
+pub told_by : {D : Type 0} (g : Ghosts D) (b : Bringing D) (e : Engine D) (result : Result (Unit {0}) Refusal) → IfErr result (λ r. (r ≡ DiskFault) × (Halts b.engine e))
+    → Calls g b.engine.disk e.disk (fault_of result) → TellsFaults (g.failures b.engine.disk) (g.failures e.disk) result
+told_by g b e (Ok x) fault call = call.no_cause refl
+told_by g b e (Err r) fault call =
+    let rose : IsErr (fault_of {T = Unit {0}} (Err r)) → Rises (g.failures b.engine.disk) (g.failures e.disk) = call.cause in
     record { fault = λ is. rose (subst (λ (x : Refusal). IsErr (fault_of {T = Unit {0}} (Err x))) (sym is) refl); no_fault = λ not. absurd (not fault.0) }
 
 -- where it succeeded there is none
@@ -335,44 +337,44 @@ none_told (Err r) same = tt
 pub told_behind : (old mid new : ℕ) (result : Result (Unit {0}) Refusal) → mid ≡ old → TellsFaults mid new result → TellsFaults old new result
 told_behind old mid new result same told = subst (λ (k : ℕ). TellsFaults k new result) same told
 
-pub installs_failed : {D : Type 0} (honest : D → Type 0) (history : D → History) (failures : D → ℕ) (n : Node) (y : State) (b : Bringing D) (r : Replica D) (result : Result (Unit {0}) Refusal) → IsErr result
-    → TakesPlace honest history failures n y b.coming b.engine r.engine result → Installs honest history failures n y b r result
-installs_failed honest history failures n y b r (Ok x) err takes = absurd cc
-installs_failed honest history failures n y b r (Err e) err takes = record { holds = tt; either = takes.either; leaves = takes.leaves }
+pub installs_failed : {D : Type 0} (g : Ghosts D) (n : Node) (y : State) (b : Bringing D) (r : Replica D) (result : Result (Unit {0}) Refusal) → IsErr result
+    → TakesPlace g n y b.coming b.engine r.engine result → Installs g n y b r result
+installs_failed g n y b r (Ok x) err takes = absurd cc
+installs_failed g n y b r (Err e) err takes = record { holds = tt; either = takes.either; leaves = takes.leaves }
 
 -- what its failure leaves is a replica
-pub replica_failed : {D : Type 0} (failures : D → ℕ) (old e : Engine D) (backlog : List Judged) (h : Holding) (result : Result (Unit {0}) Refusal) → IsErr result → IfErr result (λ r. (r ≡ DiskFault) × (e ≡ record old { disk = e.disk; halted = Some old.log.phase }))
-    → IsReplica (engine_facts failures old) backlog h false → IsReplica (engine_facts failures e) backlog h false
-replica_failed failures old e backlog h (Ok x) err is r = absurd cc
-replica_failed {D} failures old e backlog h (Err f) err is r = subst (λ (x : Engine D). IsReplica (engine_facts failures x) backlog h false) (sym is.1) (replica_still failures old e.disk (Some old.log.phase) backlog h r)
+pub replica_failed : {D : Type 0} (g : Ghosts D) (old e : Engine D) (backlog : List Judged) (h : Holding) (result : Result (Unit {0}) Refusal) → IsErr result → IfErr result (λ r. (r ≡ DiskFault) × (Halts old e))
+    → IsReplica (engine_facts g old) backlog h false → IsReplica (engine_facts g e) backlog h false
+replica_failed g old e backlog h (Ok x) err is r = absurd cc
+replica_failed {D} g old e backlog h (Err f) err is r = subst (λ (x : Engine D). IsReplica (engine_facts g x) backlog h false) (sym is.1) (replica_still g old e.disk (Some old.log.phase) backlog h r)
 
 -- where it took the place, and its superblock before is retired, or the device failed at that
-module _ {D : Type 0} (honest : D → Type 0) (history : D → History) (failures : D → ℕ) (law : CertifiersHoldWindows) (n : Node) (y : State) (b : Bringing D) (holds : HoldsBoth honest history failures n y b) (runs : b.engine.halted ≡ None)
-    (is : IsBringing (engine_facts failures b.engine) b.coming b.before b.after) (beside : IsBeside b.engine.checkpoint b.engine.log b.engine.block b.coming) (e : Engine D) (ended : Result (Unit {0}) Refusal) (ok : IsOk ended) (takes : TakesPlace honest history failures n y b.coming b.engine e ended) where
+module _ {D : Type 0} (g : Ghosts D) (law : CertifiersHoldWindows) (n : Node) (y : State) (b : Bringing D) (holds : HoldsBoth g n y b) (runs : b.engine.halted ≡ None)
+    (is : IsBringing (engine_facts g b.engine) b.coming b.before b.after) (beside : IsBeside b.engine.checkpoint b.engine.log b.engine.block b.coming) (e : Engine D) (ended : Result (Unit {0}) Refusal) (ok : IsOk ended) (takes : TakesPlace g n y b.coming b.engine e ended) where
   abbrev there : Node
   there = installed n b.coming y
 
   abbrev mid : Replica D
   mid = record { engine = e; backlog = []; certifier = b.after; stopped = false }
 
-  pub held : Holds honest history failures there mid
-  held = held_there honest history failures law n y b holds runs is beside e (by ended ok takes.holds)
+  pub held : Holds g there mid
+  held = held_there g law n y b holds runs is beside e (by ended ok takes.holds)
     where
-      by : (result : Result (Unit {0}) Refusal) → IsOk result → OnOk result (EngineHolds honest history failures there e) → EngineHolds honest history failures there e
+      by : (result : Result (Unit {0}) Refusal) → IsOk result → OnOk result (EngineHolds g there e) → EngineHolds g there e
       by (Ok x) ok h = h
       by (Err r) ok h = absurd cc
 
-  pub installs_there : (new : Replica D) (result : Result (Unit {0}) Refusal) → OnOk result (Holds honest history failures (record there { facts = record there.facts { stage = is_off_stage } }) new) → OnErr result (LeavesFronts honest history there new)
-      → LeavesOnly (history e.disk) (history new.engine.disk) (IsFrontAt Means there) → Installs honest history failures n y b new result
+  pub installs_there : (new : Replica D) (result : Result (Unit {0}) Refusal) → OnOk result (Holds g (record there { facts = record there.facts { stage = is_off_stage } }) new) → OnErr result (LeavesFronts g there new)
+      → LeavesOnly (g.history e.disk) (g.history new.engine.disk) (IsFrontAt Means there) → Installs g n y b new result
   installs_there new (Ok x) done fronts leaves = record {
-    holds = (record there { facts = record there.facts { stage = is_off_stage } }, is_there honest history failures law n y b holds runs is beside, done);
+    holds = (record there { facts = record there.facts { stage = is_off_stage } }, is_there g law n y b holds runs is beside, done);
     either = tt;
-    leaves = leaves_there honest history failures law n y b holds runs is beside (history b.engine.disk) (history e.disk) (history new.engine.disk) takes.leaves leaves;
+    leaves = leaves_there g law n y b holds runs is beside (g.history b.engine.disk) (g.history e.disk) (g.history new.engine.disk) takes.leaves leaves;
   }
   installs_there new (Err r) done fronts leaves = record {
     holds = tt;
-    either = either_there honest history failures law n y b holds runs is beside new fronts;
-    leaves = leaves_there honest history failures law n y b holds runs is beside (history b.engine.disk) (history e.disk) (history new.engine.disk) takes.leaves leaves;
+    either = either_there g law n y b holds runs is beside new fronts;
+    leaves = leaves_there g law n y b holds runs is beside (g.history b.engine.disk) (g.history e.disk) (g.history new.engine.disk) takes.leaves leaves;
   }
 
 pub err_of : (result : Result (Unit {0}) Refusal) → true ≡ is_err result → IsErr result

@@ -1,12 +1,12 @@
 -- How a replica judges: as the node that it stands for.
-use Rattle.std.proofs.Common.{◌≡◌, ℕ, ◌+◌, ◌-◌, false, List, length, length-append, length-drop, sym, ap, ◌∙◌, arith}
+use Rattle.std.proofs.Common.{◌≡◌, ◌+◌, ◌-◌, false, List, length, length-append, length-drop, sym, ap, ◌∙◌, arith}
 use Rattle.std.proofs.lemmas.List.{take_all}
 use Rattle.rep_types.specs.declared.judged.Judged.{Judged}
 use Rattle.rep_types.specs.declared.item.Item.{Item}
 use Rattle.rep_types.specs.Windows.{Window}
 use Rattle.rep_types.specs.Settings.{Setting}
 use Rattle.rep_types.specs.Order.{judge}
-use Rattle.rep_disk.specs.History.{History}
+use Rattle.rep_disk.specs.declared.disk.Disk.{Ghosts}
 use Rattle.rep_cert.specs.Holdings.{Holding, IsAskable, window_of, verdict_of}
 use Rattle.rep_steps.specs.Standings.{Standing, delivered}
 use Rattle.rep_steps.specs.Nodes.{Node, reached, window_at, verdict_for}
@@ -15,15 +15,15 @@ use Rattle.rep_replica.specs.Replicas.{Replica, facts_of, IsReplica}
 use Rattle.rep_replica.specs.Holding.{Holds}
 
 -- The certifier stands where the node does: it was handed as many items, has its window, and gives its verdicts.
-pub record Judges {D : Type 0} (honest : D → Type 0) (history : D → History) (failures : D → ℕ) (r : Replica D) (n : Node) : Type 0 where
+pub record Judges {D : Type 0} (g : Ghosts D) (r : Replica D) (n : Node) : Type 0 where
   pub setting : r.certifier.current.setting ≡ n.facts.setting
   pub here : r.certifier.current.delivered ≡ delivered n.facts
   pub all : delivered n.facts ≡ n.base.position + length n.items
   pub present : window_of r.certifier.current r.certifier.current.delivered ≡ (reached n.facts.setting n.base n.items).kept
   pub verdict : (i : Item) → verdict_of r.certifier.current i ≡ verdict_for n i
 
-module _ {D : Type 0} (honest : D → Type 0) (history : D → History) (failures : D → ℕ) (r : Replica D) (running : r.stopped ≡ false) (is : IsReplica (engine_facts failures r.engine) r.backlog r.certifier.current r.stopped)
-    (n : Node) (holds : Holds honest history failures n r) where
+module _ {D : Type 0} (g : Ghosts D) (r : Replica D) (running : r.stopped ≡ false) (is : IsReplica (engine_facts g r.engine) r.backlog r.certifier.current r.stopped)
+    (n : Node) (holds : Holds g n r) where
   abbrev h : Holding
   h = r.certifier.current
 
@@ -33,7 +33,7 @@ module _ {D : Type 0} (honest : D → Type 0) (history : D → History) (failure
   setting_is : h.setting ≡ p
   setting_is = is.setting ∙ sym (ap (λ (t : Standing). t.setting) holds.facts)
 
-  count : h.delivered ≡ delivered (facts_of failures r)
+  count : h.delivered ≡ delivered (facts_of g r)
   count = let go = is.items running in omega (arith, go.count, length-append r.engine.block r.backlog)
 
   here : h.delivered ≡ delivered n.facts
@@ -58,5 +58,5 @@ module _ {D : Type 0} (honest : D → Type 0) (history : D → History) (failure
       ap (λ (x : Setting). judge x h.delivered (window_of h h.delivered) i) setting_is ∙ ap (λ k. judge p k (window_of h h.delivered) i) here
       ∙ ap (λ (v : Window). judge p (delivered n.facts) v i) (present ∙ sym window_there)
 
-  pub judges_as : Judges honest history failures r n
+  pub judges_as : Judges g r n
   judges_as = record { setting = setting_is; here = here; all = all; present = present; verdict = verdict_is }

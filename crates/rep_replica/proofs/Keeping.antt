@@ -4,12 +4,11 @@ use Rattle.std.specs.Prelude.{IsTrue, MatchOption}
 use Rattle.std.proofs.lemmas.List.{length-take-le}
 use Rattle.uuid.specs.Parts.{is_nil_bytes}
 use Rattle.rep_types.specs.declared.judged.Judged.{Judged}
-use Rattle.rep_types.specs.declared.key.Key.{Key}
 use Rattle.rep_types.specs.declared.refusal.Refusal.{Refusal}
 use Rattle.rep_record.specs.Blocks.{SeqnosFrom}
 use Rattle.rep_cert.specs.Holdings.{Holding}
 use Rattle.rep_steps.specs.declared.event.Event.{Event}
-use Rattle.rep_steps.specs.declared.event.Event.TheVariants.{Log, Sync, Check, Flush, Read}
+use Rattle.rep_steps.specs.declared.event.Event.TheVariants.{Log, Sync, Check, Flush}
 use Rattle.rep_steps.specs.declared.answer.Answer.{Answer}
 use Rattle.rep_steps.specs.declared.answer.Answer.TheVariants.{Refused}
 use Rattle.rep_steps.specs.Standings.{Standing, delivered, refusal}
@@ -52,9 +51,6 @@ failed_keeps s failures = record { uuid = refl; setting = refl; count = refl; ri
 
 pub log_keeps : (s t : Standing) (a : Answer) → Moves s Log a t → Keep s t
 log_keeps s t a m = by_cases s t Log a (Keep s) m (keeps_same s) (failed_keeps s) (λ f. record { uuid = refl; setting = refl; count = refl; rises = omega arith })
-
-pub read_keeps : (s t : Standing) (key : Key) (at : ℕ) (a : Answer) → Moves s (Read key at) a t → Keep s t
-read_keeps s t key at a m = by_cases s t (Read key at) a (Keep s) m (keeps_same s) (failed_keeps s) (λ f. keeps_same s)
 
 pub check_keeps : (s t : Standing) (a : Answer) → Moves s Check a t → Keep s t
 check_keeps s t a m = by_cases s t Check a (Keep s) m (keeps_same s) (failed_keeps s) (λ f. record { uuid = refl; setting = refl; count = refl; rises = omega arith })

@@ -14,6 +14,7 @@ use Rattle.rep_types.specs.declared.refusal.Refusal.TheVariants.{Stopped, BadKey
 use Rattle.rep_types.specs.Settings.{Setting, has_row}
 use Rattle.rep_types.specs.Replies.{reply_of}
 use Rattle.rep_types.specs.Order.{Order, history as history_of, read, rows, state}
+use Rattle.rep_disk.specs.declared.disk.Disk.{Ghosts}
 use Rattle.rep_disk.specs.History.{History, IsImage, seen}
 use Rattle.rep_disk.specs.Moments.{moment, ImageSince}
 use Rattle.rep_disk.specs.Laws.{MomentsOfCalls}
@@ -141,13 +142,13 @@ part_of_map f y x z xs le = ap (take x) (drop-map f y (take z xs)) ∙ take-map 
 
 -- ---- a life
 
-module _ {D : Type 0} (honest : D → Type 0) (history : D → History) (failures : D → ℕ)
-    (one_thing : ImagesMeanOneThing) (hold : NodesHoldTheOrder) (follow : StepsFollowTheOrder) (come : RunsComeTo) (answer : RunsAnswerTheOrder) (stopped : StoppedReplicasHold honest history failures) (moments : MomentsOfCalls) where
+module _ {D : Type 0} (g : Ghosts D)
+    (one_thing : ImagesMeanOneThing) (hold : NodesHoldTheOrder) (follow : StepsFollowTheOrder) (come : RunsComeTo) (answer : RunsAnswerTheOrder) (stopped : StoppedReplicasHold g) (moments : MomentsOfCalls) where
   -- ---- an opening
 
   -- what is opened on an image that stands for a front of the order
   pub opened_on : (uuid : List ℕ) (p : Setting) (O : Order) (d h : ℕ) (given : List Reply) (image : List ℕ) (old : History) (r : Replica D) (f : IsFrontOf Means uuid p (take h O) d image) → AreRepliesOf (take d (history_of p O)) given
-      → seen old ≡ image → Opens honest history failures old r → (n : Node) × OpensOn honest history failures uuid p O d h given r f.end n
+      → seen old ≡ image → Opens g old r → (n : Node) × OpensOn g uuid p O d h given r f.end n
   opened_on uuid p O d h given image old r f kept on opens =
       let e = f.end in
       let L : Order = take e O in
@@ -159,15 +160,15 @@ module _ {D : Type 0} (honest : D → Type 0) (history : D → History) (failure
       let stands : StandsFor uuid p L opens.meaning = subst (StandsFor uuid p L) same (subst (λ (M : Order). StandsFor uuid p M f.meaning) (take-take e h O most) f.stands) in
       let own : StandsFor opens.meaning.uuid opens.meaning.setting L opens.meaning =
       subst (λ (u : List ℕ). StandsFor u opens.meaning.setting L opens.meaning) (sym stands.uuid_is) (subst (λ (q : Setting). StandsFor uuid q L opens.meaning) (sym stands.setting_is) stands) in
-      let n : Node = opened (facts_of failures r) opens.gates opens.meaning in
-      let holds : Holds honest history failures n r = opens.holds in
+      let n : Node = opened (facts_of g r) opens.gates opens.meaning in
+      let holds : Holds g n r = opens.holds in
       let of : IsOf L n = opens.opens.order L own in
       let size : length L ≡ e = length-take-le e O within in
       let held = hold L n holds.node of in
-      let durable : (facts_of failures r).durable ≡ e = sym (ap (λ (s : Standing). s.durable) holds.facts) ∙ omega (arith, held.count, size) in
+      let durable : (facts_of g r).durable ≡ e = sym (ap (λ (s : Standing). s.durable) holds.facts) ∙ omega (arith, held.count, size) in
       let uuid_is : n.facts.uuid ≡ uuid = stands.uuid_is in
       let setting_is : n.facts.setting ≡ p = stands.setting_is in
-      let own_uuid : (facts_of failures r).uuid ≡ uuid = sym (ap (λ (s : Standing). s.uuid) holds.facts) ∙ uuid_is in (
+      let own_uuid : (facts_of g r).uuid ≡ uuid = sym (ap (λ (s : Standing). s.uuid) holds.facts) ∙ uuid_is in (
         n,
         record {
           least = f.least;
@@ -176,7 +177,7 @@ module _ {D : Type 0} (honest : D → Type 0) (history : D → History) (failure
           kept = replies_longer d e (history_of p O) given f.least kept;
           durable = durable;
           delivered_is = sym (ap delivered holds.facts) ∙ held.count ∙ size;
-          gtid = ap (λ (u : List ℕ). gtid_at u (facts_of failures r).durable) own_uuid ∙ ap (gtid_at uuid) durable;
+          gtid = ap (λ (u : List ℕ). gtid_at u (facts_of g r).durable) own_uuid ∙ ap (gtid_at uuid) durable;
           state_is =
               held.state e (omega (arith, of.within, size)) (omega (arith, size)) ∙ ap (λ (q : Setting). state q (take e L)) setting_is ∙ ap (state p) (take-take e e O (omega arith));
           holds = holds;
@@ -234,7 +235,7 @@ module _ {D : Type 0} (honest : D → Type 0) (history : D → History) (failure
   }
 
   one_life : (uuid : List ℕ) (p : Setting) (O : Order) (d h : ℕ) (given : List Reply) (image : List ℕ) (life : Life D) → IsFrontOf Means uuid p (take h O) d image → AreRepliesOf (take d (history_of p O)) given
-      → IsLife honest history failures image life → IsFed failures O life → LifeFollows honest history failures uuid p O d h given life
+      → IsLife g image life → IsFed g O life → LifeFollows g uuid p O d h given life
   one_life uuid p O d h given image life f kept is is_fed =
       let e = f.end in
       let L : Order = take e O in
@@ -254,17 +255,17 @@ module _ {D : Type 0} (honest : D → Type 0) (history : D → History) (failure
       let follows_on = ran_on O (L ++ A1) rest k life.begun life.untold m first.2.node follows.comes.order second.1.runs fed in
       let uuid_k : k.facts.uuid ≡ uuid = follows.comes.uuid ∙ opens.uuid_is in
       let setting_k : k.facts.setting ≡ p = follows.comes.setting ∙ opens.setting_is in
-      let durable_k : k.facts.durable ≡ (facts_of failures life.mid).durable = ap (λ (s : Standing). s.durable) first.2.facts in
-      let c = (facts_of failures life.mid).durable in
-      let count : length ((L ++ A1) ++ A2) ≡ delivered (facts_of failures life.last) = sym (hold ((L ++ A1) ++ A2) m follows_on.comes.node follows_on.comes.order).count ∙ ap delivered second.2.facts in
-      let whole : (L ++ A1) ++ A2 ≡ take (delivered (facts_of failures life.last)) O = sym (take_at ((L ++ A1) ++ A2) rest (delivered (facts_of failures life.last)) count) ∙ ap (take (delivered (facts_of failures life.last))) fed in
+      let durable_k : k.facts.durable ≡ (facts_of g life.mid).durable = ap (λ (s : Standing). s.durable) first.2.facts in
+      let c = (facts_of g life.mid).durable in
+      let count : length ((L ++ A1) ++ A2) ≡ delivered (facts_of g life.last) = sym (hold ((L ++ A1) ++ A2) m follows_on.comes.node follows_on.comes.order).count ∙ ap delivered second.2.facts in
+      let whole : (L ++ A1) ++ A2 ≡ take (delivered (facts_of g life.last)) O = sym (take_at ((L ++ A1) ++ A2) rest (delivered (facts_of g life.last)) count) ∙ ap (take (delivered (facts_of g life.last))) fed in
       let as_said : (M : Order) → IsFrontOf Means k.facts.uuid k.facts.setting M k.facts.durable life.left → IsFrontOf Means uuid p M c life.left =
-      λ M g. subst (λ j. IsFrontOf Means uuid p M j life.left) durable_k (subst (λ (q : Setting). IsFrontOf Means uuid q M k.facts.durable life.left) setting_k (subst (λ (u : List ℕ). IsFrontOf Means u k.facts.setting M k.facts.durable life.left) uuid_k g)) in
-      let here : IsImage (history life.mid.engine.disk) life.left → IsFrontOf Means uuid p (take (delivered (facts_of failures life.last)) O) c life.left =
+      λ M front. subst (λ j. IsFrontOf Means uuid p M j life.left) durable_k (subst (λ (q : Setting). IsFrontOf Means uuid q M k.facts.durable life.left) setting_k (subst (λ (u : List ℕ). IsFrontOf Means u k.facts.setting M k.facts.durable life.left) uuid_k front)) in
+      let here : IsImage (g.history life.mid.engine.disk) life.left → IsFrontOf Means uuid p (take (delivered (facts_of g life.last)) O) c life.left =
       λ i. subst (λ (M : Order). IsFrontOf Means uuid p M c life.left) whole
       (front_longer Means uuid p (L ++ A1) A2 c life.left (as_said (L ++ A1) (stopped.leaves (L ++ A1) k life.mid (stopped.of_node k life.mid first.2) follows.comes.order life.left i))) in
-      let there : IsFrontOf Means k.facts.uuid k.facts.setting ((L ++ A1) ++ A2) k.facts.durable life.left → IsFrontOf Means uuid p (take (delivered (facts_of failures life.last)) O) c life.left =
-      λ g. subst (λ (M : Order). IsFrontOf Means uuid p M c life.left) whole (as_said ((L ++ A1) ++ A2) g) in
+      let there : IsFrontOf Means k.facts.uuid k.facts.setting ((L ++ A1) ++ A2) k.facts.durable life.left → IsFrontOf Means uuid p (take (delivered (facts_of g life.last)) O) c life.left =
+      λ front. subst (λ (M : Order). IsFrontOf Means uuid p M c life.left) whole (as_said ((L ++ A1) ++ A2) front) in
       record {
         position = e;
         start = n;
@@ -275,35 +276,35 @@ module _ {D : Type 0} (honest : D → Type 0) (history : D → History) (failure
         last = m;
         went_on = second.2;
         follows_on = follows_on;
-        front = by here there ((second.1.leaves (L ++ A1) follows.comes.order).since (moment (history life.mid.engine.disk)) life.left (omega arith) is.stop);
+        front = by here there ((second.1.leaves (L ++ A1) follows.comes.order).since (moment (g.history life.mid.engine.disk)) life.left (omega arith) is.stop);
       }
     where
-      by : {F G : Type 0} → (IsImage (history life.mid.engine.disk) life.left → F) → (G → F) → ImageSince (history life.mid.engine.disk) (moment (history life.mid.engine.disk)) life.left ⊎ G → F
-      by here there (inl since) = here ((moments.of_none (history life.mid.engine.disk) life.left).0 since)
-      by here there (inr g) = there g
+      by : {F G : Type 0} → (IsImage (g.history life.mid.engine.disk) life.left → F) → (G → F) → ImageSince (g.history life.mid.engine.disk) (moment (g.history life.mid.engine.disk)) life.left ⊎ G → F
+      by here there (inl since) = here ((moments.of_none (g.history life.mid.engine.disk) life.left).0 since)
+      by here there (inr front) = there front
 
   -- the replies that were given by its end are of items that were durable then
-  given_then : (uuid : List ℕ) (p : Setting) (O : Order) (d h : ℕ) (given : List Reply) (life : Life D) → LifeFollows honest history failures uuid p O d h given life
-      → AreRepliesOf (take (facts_of failures life.mid).durable (history_of p O)) (given ++ acknowledged life.answers)
+  given_then : (uuid : List ℕ) (p : Setting) (O : Order) (d h : ℕ) (given : List Reply) (life : Life D) → LifeFollows g uuid p O d h given life
+      → AreRepliesOf (take (facts_of g life.mid).durable (history_of p O)) (given ++ acknowledged life.answers)
   given_then uuid p O d h given life one =
       let opens = one.opens in
       let b = one.start.facts.durable in
       let e = one.mid.facts.durable in
       let first : b ≡ one.position = ap (λ (s : Standing). s.durable) opens.holds.facts ∙ opens.durable in
-      let last : e ≡ (facts_of failures life.mid).durable = ap (λ (s : Standing). s.durable) one.came.facts in
+      let last : e ≡ (facts_of g life.mid).durable = ap (λ (s : Standing). s.durable) one.came.facts in
       let told : acknowledged life.answers ≡ map reply_of (take (e - b) (drop one.position (history_of p O))) =
       one.follows.answers_are.replied ∙ ap (λ (q : Setting). map reply_of (take (e - b) (drop b (history_of q O)))) opens.setting_is ∙ ap (λ i. map reply_of (take (e - b) (drop i (history_of p O)))) first in
-      let all : one.position + (e - b) ≡ (facts_of failures life.mid).durable = omega (arith, one.follows.comes.rises, first, last) in
+      let all : one.position + (e - b) ≡ (facts_of g life.mid).durable = omega (arith, one.follows.comes.rises, first, last) in
       subst (λ i. AreRepliesOf (take i (history_of p O)) (given ++ acknowledged life.answers)) all (replies_more one.position (e - b) (history_of p O) given (acknowledged life.answers) opens.kept told)
 
   follow_on : (uuid : List ℕ) (p : Setting) (O : Order) (d h : ℕ) (given : List Reply) (image : List ℕ) (lives : List (Life D)) → IsFrontOf Means uuid p (take h O) d image → AreRepliesOf (take d (history_of p O)) given
-      → Lives honest history failures image lives → AreFed failures O lives → LivesFollow honest history failures uuid p O d h given lives
+      → Lives g image lives → AreFed g O lives → LivesFollow g uuid p O d h given lives
   follow_on uuid p O d h given image [] f kept is fed = tt
   follow_on uuid p O d h given image (life ∷ lives) f kept is fed =
       let one = one_life uuid p O d h given image life f kept is.0 fed.0 in (
         one,
-        follow_on uuid p O (facts_of failures life.mid).durable (delivered (facts_of failures life.last)) (given ++ acknowledged life.answers) life.left lives one.front (given_then uuid p O d h given life one) is.1 fed.1,
+        follow_on uuid p O (facts_of g life.mid).durable (delivered (facts_of g life.last)) (given ++ acknowledged life.answers) life.left lives one.front (given_then uuid p O d h given life one) is.1 fed.1,
       )
 
-  pub lives_follow : LivesFollowTheOrder honest history failures
+  pub lives_follow : LivesFollowTheOrder g
   lives_follow uuid p O d h image lives f is fed = follow_on uuid p O d h [] image lives f (λ r has. absurd (omega (arith, has.1))) is fed

@@ -2,6 +2,7 @@
 use Rattle.std.proofs.Common.{◌≡◌, ℕ, false, List, [], append-nil, length, take, refl, sym, ap, subst, ◌∙◌, arith}
 use Rattle.std.proofs.lemmas.List.{take_all, drop_all}
 use Rattle.rep_types.specs.declared.judged.Judged.{Judged}
+use Rattle.rep_disk.specs.declared.disk.Disk.{Ghosts}
 use Rattle.rep_disk.specs.History.{History}
 use Rattle.rep_cert.specs.Holdings.{Holdings}
 use Rattle.rep_steps.specs.Standings.{Standing}
@@ -14,14 +15,14 @@ use Rattle.rep_recover.specs.Starting.{IsStart, OpensNode, node_of}
 use Rattle.rep_replica.specs.Replicas.{Replica, facts_of}
 use Rattle.rep_replica.specs.Opening.{Opens}
 
-module _ {D : Type 0} (honest : D → Type 0) (history : D → History) (failures : D → ℕ) (size : ℕ) (old : History) (e : Engine D) (h : Holdings) (start : IsStart size e h.current) where
-  pub opened_replica : OpensNode honest history failures old e h.current → Opens honest history failures old (record { engine = e; backlog = []; certifier = h; stopped = false })
+module _ {D : Type 0} (g : Ghosts D) (size : ℕ) (old : History) (e : Engine D) (h : Holdings) (start : IsStart size e h.current) where
+  pub opened_replica : OpensNode g old e h.current → Opens g old (record { engine = e; backlog = []; certifier = h; stopped = false })
   opened_replica o =
       let m = o.meaning in
-      let n : Node = node_of failures e o.gates m in
+      let n : Node = node_of g e o.gates m in
       let q = length m.tail in
       let r : Replica D = record { engine = e; backlog = []; certifier = h; stopped = false } in
-      let facts : n.facts ≡ facts_of failures r = o.holds.facts ∙ ap (λ (xs : List Judged). record (engine_facts failures e) { ahead = xs }) (sym (append-nil e.block)) in
+      let facts : n.facts ≡ facts_of g r = o.holds.facts ∙ ap (λ (xs : List Judged). record (engine_facts g e) { ahead = xs }) (sym (append-nil e.block)) in
       let part : part_of e.block q n ≡ n =
       ap (λ (xs : List Judged). record n { facts = with_ahead xs n.facts; items = take q m.tail }) start.empty ∙ ap (λ (js : List Judged). record n { items = js }) (take_all q m.tail (omega arith)) in
       record {
@@ -29,7 +30,7 @@ module _ {D : Type 0} (honest : D → Type 0) (history : D → History) (failure
         meaning = m;
         means = o.means;
         gates = o.gates;
-        opens = subst (λ (s : Standing). OpensTheOrder s o.gates m) (ap (λ (xs : List Judged). record (engine_facts failures e) { ahead = xs }) (sym (append-nil e.block))) o.opens;
+        opens = subst (λ (s : Standing). OpensTheOrder s o.gates m) (ap (λ (xs : List Judged). record (engine_facts g e) { ahead = xs }) (sym (append-nil e.block))) o.opens;
         holds = record {
           running = refl;
           facts = facts;
@@ -37,7 +38,7 @@ module _ {D : Type 0} (honest : D → Type 0) (history : D → History) (failure
           judged = o.means.means.judged;
           taken = q;
           within = omega arith;
-          engine = subst (λ (k : Node). EngineHolds honest history failures k e) (sym part) o.holds;
+          engine = subst (λ (k : Node). EngineHolds g k e) (sym part) o.holds;
           waiting = sym (drop_all q m.tail (omega arith));
           windows = λ k above askable. o.windows k askable;
         };

@@ -6,14 +6,14 @@ use Rattle.rep_types.specs.declared.reply.Reply.{Reply}
 use Rattle.rep_types.specs.declared.refusal.Refusal.{Refusal}
 use Rattle.rep_types.specs.declared.refusal.Refusal.TheVariants.{Stopped, OutOfMemory, DiskFault, Corrupt}
 use Rattle.rep_types.specs.declared.refusal.Part.TheVariants.{Pages}
-use Rattle.rep_disk.specs.History.{History}
+use Rattle.rep_disk.specs.declared.disk.Disk.{Ghosts}
 use Rattle.rep_log.specs.Standing.{due_of}
 use Rattle.rep_steps.specs.declared.event.Event.{Event}
 use Rattle.rep_steps.specs.declared.event.Event.TheVariants.{Deliver, SetWindow, Log, Sync, Check, Flush, Read}
 use Rattle.rep_steps.specs.declared.answer.Answer.TheVariants.{Wrote, Refused}
 use Rattle.rep_steps.specs.Standings.{Standing, refusal}
 use Rattle.rep_steps.specs.Moves.{Moves, Fails, MeetsCorruption}
-use Rattle.rep_engine.specs.Engines.{Engine, facts_of as engine_facts}
+use Rattle.rep_engine.specs.Engines.{Engine, facts_of as engine_facts, Halts}
 use Rattle.rep_engine.specs.Holding.{wrote, synced, row}
 use Rattle.rep_engine.specs.Checking.{checked}
 use Rattle.rep_engine.specs.Writing.{written_in}
@@ -45,7 +45,7 @@ left_by_row e old new (Err r) left = left
 
 -- The engine after a refused call, as its clauses have it: as it was, or asked for a page in vain, or stopped by its device.
 abbrev pub Faults : {D : Type 0} → Engine D → Engine D → Refusal → Type 0
-Faults old new r = r ≡ DiskFault → new ≡ record old { disk = new.disk; halted = Some old.log.phase }
+Faults old new r = r ≡ DiskFault → Halts old new
 
 abbrev pub Stays : {D : Type 0} → Engine D → Engine D → Refusal → Type 0
 Stays old new r = (r ≡ DiskFault) ⊎ (new ≡ old)
@@ -90,27 +90,27 @@ only_the_device s t r none m fed = by (went_by s t Log (Refused r) none m)
     by (inr (inl (inr (device, is, rises, stopped)))) = let failed : Refused r ≡ Refused DiskFault = is in cc
     by (inr (inr (page, is, same))) = absurd (let never : false ≡ true = page in cc)
 
-module _ {D : Type 0} (failures : D → ℕ) (old mid : Replica D) (gathers : Gathers old mid) (engine : Engine D) (none : refusal (engine_facts failures mid.engine) Log ≡ None) where
-  pub log_left : (result : Result (Unit {0}) Refusal) → Moves (engine_facts failures mid.engine) Log (wrote result) (engine_facts failures engine) → IfErr result (λ r. r ≢ OutOfMemory)
+module _ {D : Type 0} (g : Ghosts D) (old mid : Replica D) (gathers : Gathers old mid) (engine : Engine D) (none : refusal (engine_facts g mid.engine) Log ≡ None) where
+  pub log_left : (result : Result (Unit {0}) Refusal) → Moves (engine_facts g mid.engine) Log (wrote result) (engine_facts g engine) → IfErr result (λ r. r ≢ OutOfMemory)
       → IfErr result (FaultsInLog mid.engine engine) → RefusesUnchanged Log (wrote result) old (record mid { engine = engine })
   log_left (Ok x) moves fed faults = tt
   log_left (Err r) moves fed faults =
-      let failed = only_the_device (engine_facts failures mid.engine) (engine_facts failures engine) r none moves fed in
+      let failed = only_the_device (engine_facts g mid.engine) (engine_facts g engine) r none moves fed in
       inr (inr (failed, record { mid = mid; gathers = gathers; after = ap (λ (x : Engine D). record mid { engine = x }) (faults failed) }))
 
 -- ---- what the bytes decide
 
-module _ {D : Type 0} (honest : D → Type 0) (history : D → History) where
-  pub flush_spells : (page : ℕ) (old new : Replica D) (result : Result (Unit {0}) Refusal) → FlushIsSpelled honest history page old new result → Spells honest history old (Flush page) (wrote result) new
+module _ {D : Type 0} (g : Ghosts D) where
+  pub flush_spells : (page : ℕ) (old new : Replica D) (result : Result (Unit {0}) Refusal) → FlushIsSpelled g page old new result → Spells g old (Flush page) (wrote result) new
   flush_spells page old new (Ok x) spelled = spelled
   flush_spells page old new (Err r) spelled = spelled
 
-  pub read_spells : (key : Key) (s : ℕ) (old new : Replica D) (result : Result (Option (List ℕ)) Refusal) → ReadIsSpelled honest history key s old result → Spells honest history old (Read key s) (row result) new
+  pub read_spells : (key : Key) (s : ℕ) (old new : Replica D) (result : Result (Option (List ℕ)) Refusal) → ReadIsSpelled g key s old result → Spells g old (Read key s) (row result) new
   read_spells key s old new (Ok x) spelled = spelled
   read_spells key s old new (Err r) spelled = spelled
 
   -- where it is stopped no page is asked for
-  pub stopped_read : (r : Replica D) (key : Key) (s : ℕ) → ReadIsSpelled honest history key s r (Err Stopped)
+  pub stopped_read : (r : Replica D) (key : Key) (s : ℕ) → ReadIsSpelled g key s r (Err Stopped)
   stopped_read r key s on = record {
     newest = tt;
     row = λ base. tt;
@@ -118,10 +118,10 @@ module _ {D : Type 0} (honest : D → Type 0) (history : D → History) where
     corrupt = λ is. absurd cc;
   }
 
-  stopped_flush : (r : Replica D) (page : ℕ) → FlushIsSpelled honest history page r r (Err Stopped)
+  stopped_flush : (r : Replica D) (page : ℕ) → FlushIsSpelled g page r r (Err Stopped)
   stopped_flush r page on = record { done = tt; bad = λ bad. refl; corrupt = λ is. absurd cc }
 
-  pub spells_stopped : (r : Replica D) (e : Event) → Spells honest history r e (Refused Stopped) r
+  pub spells_stopped : (r : Replica D) (e : Event) → Spells g r e (Refused Stopped) r
   spells_stopped r (Deliver seqno w) = tt
   spells_stopped r (SetWindow seqno size source trx) = tt
   spells_stopped r Log = tt

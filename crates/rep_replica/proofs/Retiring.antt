@@ -4,6 +4,7 @@ use Rattle.std.specs.Prelude.{◌≢◌, MatchOption}
 use Rattle.rep_types.specs.declared.refusal.Refusal.{Refusal}
 use Rattle.rep_types.specs.declared.refusal.Refusal.TheVariants.{Stopped, OutOfMemory, DiskFault, Corrupt}
 use Rattle.rep_types.specs.declared.refusal.Part.TheVariants.{Pages}
+use Rattle.rep_disk.specs.declared.disk.Disk.{Ghosts}
 use Rattle.rep_disk.specs.History.{History, Begins, Wrote as Written, Spoiled, Synced as Stable, IsImage}
 use Rattle.rep_disk.specs.Moments.{LeavesOnly, ImageSince, moment}
 use Rattle.rep_disk.specs.Leaving.{leaves_then}
@@ -13,7 +14,7 @@ use Rattle.rep_steps.specs.declared.event.Event.TheVariants.{Sync, Check}
 use Rattle.rep_steps.specs.declared.answer.Answer.{Answer}
 use Rattle.rep_steps.specs.declared.answer.Answer.TheVariants.{Refused}
 use Rattle.rep_steps.specs.Standings.{Standing, Stage, Off, Retiring, refusal, check_refusal}
-use Rattle.rep_steps.specs.Moves.{Moves, Fails, answer, checked, takes_memory, reads_a_page, is_off}
+use Rattle.rep_steps.specs.Moves.{Moves, Fails, answer, checked}
 use Rattle.rep_steps.specs.Nodes.{Node, Steps, found, moved}
 use Rattle.rep_steps.specs.FactLaws.{after_serves}
 use Rattle.rep_steps.specs.Images.{IsFrontAt}
@@ -27,22 +28,6 @@ use Rattle.rep_replica.proofs.Settling.{refused_done, went_by, done_by, not_refu
 use Rattle.rep_replica.proofs.Widening.{whole_front}
 
 -- ---- how a step comes out
-
--- one that takes no memory and reads no page fails by its device alone, and that stops the replica
-pub fault_by : (s t : Standing) (e : Event) (a : Answer) → refusal s e ≡ None → takes_memory s e ≡ false → reads_a_page e ≡ false → Moves s e a t → IfErr (outcome_of a) (λ r. (r ≡ DiskFault) × (t.stopped ≡ true))
-fault_by s t e a none memory page m = elim (went_by s t e a none m) [
-  | inl went ↦ subst Stops (sym went.1) (subst (λ (o : Result (Unit {0}) Refusal). IfErr o (λ r. (r ≡ DiskFault) × (t.stopped ≡ true))) (sym (answer_done s e went.0)) tt)
-  | inr failed ↦ elim failed [
-    | inl why ↦ elim why [
-      | inl hungry ↦ absurd (let never : true ≡ false = sym hungry.0 ∙ memory in cc)
-      | inr fault ↦ subst Stops (sym fault.1) (refl, ap (λ (u : Standing). u.stopped) fault.3)
-    ]
-    | inr corrupt ↦ absurd (let never : true ≡ false = sym corrupt.0 ∙ page in cc)
-  ]
-]
-  where
-    Stops : Answer → Type 0
-    Stops b = IfErr (outcome_of b) (λ r. (r ≡ DiskFault) × (t.stopped ≡ true))
 
 pub stopped_is_none : Stopped ≢ DiskFault
 stopped_is_none is = cc
@@ -87,19 +72,8 @@ module _ (s : Standing) (stage : s.stage ≡ Retiring false) (phase : s.phase �
   pub check_free : refusal s Check ≡ None
   check_free = not_refused s Check runs (ap (check_refusal s) stage)
 
-  pub check_wants_none : takes_memory s Check ≡ false
-  check_wants_none = ap is_off stage
-
   pub checked_facts : (t : Standing) (a : Answer) → Moves s Check a t → outcome_of a ≡ Ok tt → t ≡ record s { stage = Retiring true }
   checked_facts t a m done = let d = done_by s t Check a check_free m done in d.1 ∙ ap (λ (st : Stage). record s { stage = checked s d.0.left st }) stage
-
-  pub synced_facts : (t u : Standing) (a : Answer) → t ≡ record s { stage = Retiring true } → Moves t Sync a u → outcome_of a ≡ Ok tt → u ≡ record s { stage = Off }
-  synced_facts t u a is m done =
-      let from : Moves (record s { stage = Retiring true }) Sync a u = subst (λ (x : Standing). Moves x Sync a u) is m in
-      let d = done_by (record s { stage = Retiring true }) u Sync a (not_refused (record s { stage = Retiring true }) Sync runs refl) from done in
-      let none : s.durable + 0 ≡ s.durable = omega arith in
-      let next : s.next + 0 ≡ s.next = omega arith in
-      d.1 ∙ rw phase (rw none (rw next refl))
 
   -- what the first of them tells of the device, and both
   pub check_tells : (t : Standing) (a : Answer) → Moves s Check a t → TellsFaults s.failures t.failures (outcome_of a)
@@ -154,18 +128,18 @@ front_at_stage n stage image f = record { meaning = f.meaning; reads = f.reads; 
 
 -- ---- of a replica
 
-module _ {D : Type 0} (honest : D → Type 0) (history : D → History) (failures : D → ℕ) (old mid : Replica D) (a : Answer) (step : IsStep honest history failures old Check a mid) (n : Node) (holds : Holds honest history failures n old) where
-  fronts : (image : List ℕ) → IsImage (history old.engine.disk) image → IsFrontAt Means n image
+module _ {D : Type 0} (g : Ghosts D) (old mid : Replica D) (a : Answer) (step : IsStep g old Check a mid) (n : Node) (holds : Holds g n old) where
+  fronts : (image : List ℕ) → IsImage (g.history old.engine.disk) image → IsFrontAt Means n image
   fronts image here = whole_front n old.engine.block holds.taken image (holds.engine.images image here)
 
   -- a step leaves fronts of the node
-  pub step_fronts : LeavesFronts honest history n mid
+  pub step_fronts : LeavesFronts g n mid
   step_fronts = record {
     is_honest = (step.steps n holds).2.engine.is_honest;
-    images = left_now (history old.engine.disk) (history mid.engine.disk) (step.leaves n holds) fronts;
+    images = left_now (g.history old.engine.disk) (g.history mid.engine.disk) (step.leaves n holds) fronts;
   }
 
-  module _ (running : IsRunning old) (stage : (facts_of failures old).stage ≡ Retiring false) (phase : (facts_of failures old).phase ≡ Resting) (done : outcome_of a ≡ Ok tt) where
+  module _ (running : IsRunning old) (stage : (facts_of g old).stage ≡ Retiring false) (phase : (facts_of g old).phase ≡ Resting) (done : outcome_of a ≡ Ok tt) where
     stage_is : n.facts.stage ≡ Retiring false
     stage_is = ap (λ (s : Standing). s.stage) holds.facts ∙ stage
 
@@ -173,28 +147,28 @@ module _ {D : Type 0} (honest : D → Type 0) (history : D → History) (failure
     phase_is = ap (λ (s : Standing). s.phase) holds.facts ∙ phase
 
     runs : n.facts.stopped ≡ false
-    runs = ap (λ (s : Standing). s.stopped) holds.facts ∙ runs_on failures old running
+    runs = ap (λ (s : Standing). s.stopped) holds.facts ∙ runs_on g old running
 
     -- the node with its superblock written
     abbrev written : Node
     written = record n { facts = record n.facts { stage = Retiring true } }
 
-    pub holds_written : Holds honest history failures written mid
+    pub holds_written : Holds g written mid
     holds_written =
         let went = step.steps n holds in
-        subst (λ (m : Node). Holds honest history failures m mid) (steps_done n went.0 Check a (check_free n.facts stage_is phase_is runs) done went.1 ∙ checked_node n stage_is) went.2
+        subst (λ (m : Node). Holds g m mid) (steps_done n went.0 Check a (check_free n.facts stage_is phase_is runs) done went.1 ∙ checked_node n stage_is) went.2
 
-    module _ (new : Replica D) (b : Answer) (second : IsStep honest history failures mid Sync b new) where
-      pub second_leaves : LeavesOnly (history old.engine.disk) (history new.engine.disk) (IsFrontAt Means n)
-      second_leaves = leaves_then (history old.engine.disk) (history mid.engine.disk) (history new.engine.disk) (step.leaves n holds) (second.leaves written holds_written) (λ image f. front_at_stage n (Retiring true) image f)
+    module _ (new : Replica D) (b : Answer) (second : IsStep g mid Sync b new) where
+      pub second_leaves : LeavesOnly (g.history old.engine.disk) (g.history new.engine.disk) (IsFrontAt Means n)
+      second_leaves = leaves_then (g.history old.engine.disk) (g.history mid.engine.disk) (g.history new.engine.disk) (step.leaves n holds) (second.leaves written holds_written) (λ image f. front_at_stage n (Retiring true) image f)
 
-      pub second_fronts : LeavesFronts honest history n new
+      pub second_fronts : LeavesFronts g n new
       second_fronts = record {
         is_honest = (second.steps written holds_written).2.engine.is_honest;
-        images = left_now (history old.engine.disk) (history new.engine.disk) second_leaves fronts;
+        images = left_now (g.history old.engine.disk) (g.history new.engine.disk) second_leaves fronts;
       }
 
-      pub holds_retired : outcome_of b ≡ Ok tt → Holds honest history failures (record n { facts = record n.facts { stage = Off } }) new
+      pub holds_retired : outcome_of b ≡ Ok tt → Holds g (record n { facts = record n.facts { stage = Off } }) new
       holds_retired ended =
           let went = second.steps written holds_written in
-          subst (λ (m : Node). Holds honest history failures m new) (steps_done written went.0 Sync b (not_refused written.facts Sync runs refl) ended went.1 ∙ synced_node n phase_is) went.2
+          subst (λ (m : Node). Holds g m new) (steps_done written went.0 Sync b (not_refused written.facts Sync runs refl) ended went.1 ∙ synced_node n phase_is) went.2

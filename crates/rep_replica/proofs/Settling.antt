@@ -8,6 +8,7 @@ use Rattle.rep_types.specs.declared.reply.Reply.{Reply}
 use Rattle.rep_types.specs.declared.refusal.Refusal.{Refusal}
 use Rattle.rep_types.specs.declared.refusal.Refusal.TheVariants.{Stopped, NotDue, OutOfMemory, DiskFault, Corrupt}
 use Rattle.rep_types.specs.declared.refusal.Part.TheVariants.{Pages}
+use Rattle.rep_disk.specs.declared.disk.Disk.{Ghosts}
 use Rattle.rep_disk.specs.History.{History, seen}
 use Rattle.rep_layout.specs.declared.place.Layout.{Layout}
 use Rattle.rep_layout.specs.declared.super_body.SuperBody.{SuperBody}
@@ -96,16 +97,16 @@ early_by s t e a none m = elim (went_by s t e a none m) [
 -- ---- where it isn't stopped
 
 -- neither from outside nor by its device
-pub is_running : {D : Type 0} (failures : D → ℕ) (r : Replica D) → (facts_of failures r).stopped ≡ false → IsRunning r
-is_running failures r runs = by r.stopped r.engine.halted refl refl runs
+pub is_running : {D : Type 0} (g : Ghosts D) (r : Replica D) → (facts_of g r).stopped ≡ false → IsRunning r
+is_running g r runs = by r.stopped r.engine.halted refl refl runs
   where
     by : (inside : Bool) (halted : Option Phase) → r.stopped ≡ inside → r.engine.halted ≡ halted → (inside || is_some halted) ≡ false → IsRunning r
     by true halted a b e = absurd (let never : true ≡ false = e in cc)
     by false (Some phase) a b e = absurd (let never : true ≡ false = e in cc)
     by false None a b e = record { inside = a; device = b }
 
-pub runs_on : {D : Type 0} (failures : D → ℕ) (r : Replica D) → IsRunning r → (facts_of failures r).stopped ≡ false
-runs_on failures r running = ap (λ b. b || is_some r.engine.halted) running.inside ∙ ap is_some running.device
+pub runs_on : {D : Type 0} (g : Ghosts D) (r : Replica D) → IsRunning r → (facts_of g r).stopped ≡ false
+runs_on g r running = ap (λ b. b || is_some r.engine.halted) running.inside ∙ ap is_some running.device
 
 pub not_refused : (s : Standing) (e : Event) → s.stopped ≡ false → refusal_here s e ≡ None → refusal s e ≡ None
 not_refused s e runs none = ap (λ b. if b then Some Stopped else refusal_here s e) runs ∙ none
@@ -156,14 +157,14 @@ corrupt_reads s t e a none m corrupt = elim (went_by s t e a none m) [
   ]
 ]
 
-module _ {D : Type 0} (honest : D → Type 0) (history : D → History) (failures : D → ℕ) (old new : Replica D) where
+module _ {D : Type 0} (g : Ghosts D) (old new : Replica D) where
   -- the base has it where it had it
   base_left : (page : ℕ) (r : Refusal) → r ≡ Corrupt Pages → IsLeft (Flush page) r old new → (new.engine.layout ≡ old.engine.layout) × (new.engine.checkpoint.base ≡ old.engine.checkpoint.base)
   base_left page r is (inl same) = (ap (λ (x : Replica D). x.engine.layout) same, ap (λ (x : Replica D). x.engine.checkpoint.base) same)
   base_left page r is (inr (inl asked)) = (ap (λ (x : Replica D). x.engine.layout) asked.1, ap (λ (x : Replica D). x.engine.checkpoint.base) asked.1)
   base_left page r is (inr (inr fault)) = absurd (let never : Corrupt Pages ≡ DiskFault = sym is ∙ fault.0 in cc)
 
-  bad_flush : (page : ℕ) (a : Answer) → IsStep honest history failures old (Flush page) a new → outcome_of a ≡ Err (Corrupt Pages) → MeetsBadPage honest history new
+  bad_flush : (page : ℕ) (a : Answer) → IsStep g old (Flush page) a new → outcome_of a ≡ Err (Corrupt Pages) → MeetsBadPage g new
   bad_flush page (Gave v) step corrupt = absurd cc
   bad_flush page Wrote step corrupt = absurd cc
   bad_flush page (Began c) step corrupt = absurd cc
@@ -175,21 +176,21 @@ module _ {D : Type 0} (honest : D → Type 0) (history : D → History) (failure
       let left = base_left page r same step.unchanged in (
         page,
         subst (λ (h : History). IsBadPage (reading_of new.engine.layout (seen h)) new.engine.checkpoint.base page) (sym met.1)
-            (subst (λ (l : Layout). IsBadPage (reading_of l (seen (history old.engine.disk))) new.engine.checkpoint.base page) (sym left.0)
-            (subst (λ (b : SuperBody). IsBadPage (reading_of old.engine.layout (seen (history old.engine.disk))) b page) (sym left.1) met.0)),
+            (subst (λ (l : Layout). IsBadPage (reading_of l (seen (g.history old.engine.disk))) new.engine.checkpoint.base page) (sym left.0)
+            (subst (λ (b : SuperBody). IsBadPage (reading_of old.engine.layout (seen (g.history old.engine.disk))) b page) (sym left.1) met.0)),
       )
 
-  pub bad_page : (e : Event) (a : Answer) → IsOwn e → refusal (facts_of failures old) e ≡ None → IsStep honest history failures old e a new → outcome_of a ≡ Err (Corrupt Pages) → MeetsBadPage honest history new
+  pub bad_page : (e : Event) (a : Answer) → IsOwn e → refusal (facts_of g old) e ≡ None → IsStep g old e a new → outcome_of a ≡ Err (Corrupt Pages) → MeetsBadPage g new
   bad_page (Deliver seqno w) a own none step corrupt = absurd own
   bad_page (SetWindow seqno size source trx) a own none step corrupt = absurd own
-  bad_page Log a own none step corrupt = absurd (let never : false ≡ true = corrupt_reads (facts_of failures old) (facts_of failures new) Log a none step.moves corrupt in cc)
-  bad_page Sync a own none step corrupt = absurd (let never : false ≡ true = corrupt_reads (facts_of failures old) (facts_of failures new) Sync a none step.moves corrupt in cc)
-  bad_page Check a own none step corrupt = absurd (let never : false ≡ true = corrupt_reads (facts_of failures old) (facts_of failures new) Check a none step.moves corrupt in cc)
+  bad_page Log a own none step corrupt = absurd (let never : false ≡ true = corrupt_reads (facts_of g old) (facts_of g new) Log a none step.moves corrupt in cc)
+  bad_page Sync a own none step corrupt = absurd (let never : false ≡ true = corrupt_reads (facts_of g old) (facts_of g new) Sync a none step.moves corrupt in cc)
+  bad_page Check a own none step corrupt = absurd (let never : false ≡ true = corrupt_reads (facts_of g old) (facts_of g new) Check a none step.moves corrupt in cc)
   bad_page (Flush page) a own none step corrupt = bad_flush page a step corrupt
   bad_page (Read key at) a own none step corrupt = absurd own
 
-module _ (rule : Standing → Event → Type 0) {D : Type 0} (honest : D → Type 0) (history : D → History) (failures : D → ℕ) (joined : RunsAreJoined honest history failures) where
-  unfoldable pub none_by : (r : Replica D) → WorksBy rule honest history failures r r (Ok tt)
+module _ (rule : Standing → Event → Type 0) {D : Type 0} (g : Ghosts D) (joined : RunsAreJoined g) where
+  unfoldable pub none_by : (r : Replica D) → WorksBy rule g r r (Ok tt)
   none_by r = record {
     events = [];
     answers = [];
@@ -202,42 +203,42 @@ module _ (rule : Standing → Event → Type 0) {D : Type 0} (honest : D → Typ
     ran = joined.no_run r;
   }
 
-  unfoldable pub one_by : (old new : Replica D) (e : Event) (a : Answer) → IsOwn e → refusal (facts_of failures old) e ≡ None → rule (facts_of failures old) e → IsStep honest history failures old e a new → WorksBy rule honest history failures old new (outcome_of a)
+  unfoldable pub one_by : (old new : Replica D) (e : Event) (a : Answer) → IsOwn e → refusal (facts_of g old) e ≡ None → rule (facts_of g old) e → IsStep g old e a new → WorksBy rule g old new (outcome_of a)
   one_by old new e a own none is_due step = record {
     events = e ∷ [];
     answers = a ∷ [];
     own = (own, tt);
     ends = ends_by a;
-    moves = (facts_of failures new, (is_due, step.moves), refl);
+    moves = (facts_of g new, (is_due, step.moves), refl);
     steps = (new, step, refl);
     device = step.device;
-    corrupt = bad_page honest history failures old new e a own none step;
+    corrupt = bad_page g old new e a own none step;
     ran = joined.one_run old new e a step;
   }
 
-  unfoldable pub then_by : (old mid new : Replica D) (result : Result (Unit {0}) Refusal) → WorksBy rule honest history failures old mid (Ok tt) → WorksBy rule honest history failures mid new result → WorksBy rule honest history failures old new result
+  unfoldable pub then_by : (old mid new : Replica D) (result : Result (Unit {0}) Refusal) → WorksBy rule g old mid (Ok tt) → WorksBy rule g mid new result → WorksBy rule g old new result
   then_by old mid new result w v = record {
     events = w.events ++ v.events;
     answers = w.answers ++ v.answers;
     own = own_then w.events v.events w.own v.own;
     ends = ends_then result w.answers v.answers w.ends v.ends;
-    moves = runs_then (Allows rule) (facts_of failures old) (facts_of failures mid) (facts_of failures new) w.events w.answers v.events v.answers w.moves v.moves;
-    steps = runs_then (IsStep honest history failures) old mid new w.events w.answers v.events v.answers w.steps v.steps;
+    moves = runs_then (Allows rule) (facts_of g old) (facts_of g mid) (facts_of g new) w.events w.answers v.events v.answers w.moves v.moves;
+    steps = runs_then (IsStep g) old mid new w.events w.answers v.events v.answers w.steps v.steps;
     device = (λ h. v.device.0 (w.device.0 h), λ h. w.device.1 (v.device.1 h));
     corrupt = v.corrupt;
     ran = joined.both_runs old mid new w.events w.answers v.events v.answers w.ran v.ran;
   }
 
 -- those that are due
-module _ {D : Type 0} (honest : D → Type 0) (history : D → History) (failures : D → ℕ) (joined : RunsAreJoined honest history failures) where
-  pub works_none : (r : Replica D) → Works honest history failures r r (Ok tt)
-  works_none r = none_by IsNext honest history failures joined r
+module _ {D : Type 0} (g : Ghosts D) (joined : RunsAreJoined g) where
+  pub works_none : (r : Replica D) → Works g r r (Ok tt)
+  works_none r = none_by IsNext g joined r
 
-  pub works_one : (old new : Replica D) (e : Event) (a : Answer) → IsOwn e → refusal (facts_of failures old) e ≡ None → due (facts_of failures old) ≡ Some e → IsStep honest history failures old e a new → Works honest history failures old new (outcome_of a)
-  works_one old new e a own none is_due step = one_by IsNext honest history failures joined old new e a own none is_due step
+  pub works_one : (old new : Replica D) (e : Event) (a : Answer) → IsOwn e → refusal (facts_of g old) e ≡ None → due (facts_of g old) ≡ Some e → IsStep g old e a new → Works g old new (outcome_of a)
+  works_one old new e a own none is_due step = one_by IsNext g joined old new e a own none is_due step
 
-  pub works_then : (old mid new : Replica D) (result : Result (Unit {0}) Refusal) → Works honest history failures old mid (Ok tt) → Works honest history failures mid new result → Works honest history failures old new result
-  works_then old mid new result w v = then_by IsNext honest history failures joined old mid new result w v
+  pub works_then : (old mid new : Replica D) (result : Result (Unit {0}) Refusal) → Works g old mid (Ok tt) → Works g mid new result → Works g old new result
+  works_then old mid new result w v = then_by IsNext g joined old mid new result w v
 
 -- ---- the checkpoint goes on
 
@@ -371,32 +372,32 @@ pub err_not_ok : (r : Result (Unit {0}) Refusal) → true ≡ is_err r → r ≡
 err_not_ok (Ok x) is done = let never : true ≡ false = is in cc
 err_not_ok (Err e) is done = let never : Err e ≡ Ok tt = done in cc
 
-module _ {D : Type 0} (honest : D → Type 0) (history : D → History) (failures : D → ℕ) (old new : Replica D) (a : Answer) (result : Result (Unit {0}) Refusal) (is : result ≡ outcome_of a) where
+module _ {D : Type 0} (g : Ghosts D) (old new : Replica D) (a : Answer) (result : Result (Unit {0}) Refusal) (is : result ≡ outcome_of a) where
   -- some steps, and one more
-  pub works_on : RunsAreJoined honest history failures → IsRunning old → (first : Replica D) (e : Event) → step_of (facts_of failures old).stage ≡ Some e → IsStep honest history failures old e a new → Works honest history failures first old (Ok tt) → Works honest history failures first new result
+  pub works_on : RunsAreJoined g → IsRunning old → (first : Replica D) (e : Event) → step_of (facts_of g old).stage ≡ Some e → IsStep g old e a new → Works g first old (Ok tt) → Works g first new result
   works_on joined running first e waits step w =
-      works_then honest history failures joined first old new result w
-      (subst (λ (r : Result (Unit {0}) Refusal). Works honest history failures old new r) (sym is)
-      (works_one honest history failures joined old new e a (own_step (facts_of failures old).stage e waits) (not_refused (facts_of failures old) e (runs_on failures old running) (due_step (facts_of failures old) e waits)) (under_way (facts_of failures old) (facts_of failures old).stage e waits) step))
+      works_then g joined first old new result w
+      (subst (λ (r : Result (Unit {0}) Refusal). Works g old new r) (sym is)
+      (works_one g joined old new e a (own_step (facts_of g old).stage e waits) (not_refused (facts_of g old) e (runs_on g old running) (due_step (facts_of g old) e waits)) (under_way (facts_of g old) (facts_of g old).stage e waits) step))
 
   -- a step that the checkpoint waits for
-  pub goes_on : IsRunning old → (due : (e : Event) × (step_of (facts_of failures old).stage ≡ Some e)) → IsStep honest history failures old due.0 a new → false ≡ is_err result → Goes (facts_of failures old) (facts_of failures new)
-  goes_on running due step went = step_goes (facts_of failures old) (facts_of failures new) due.0 a (runs_on failures old running) due.1 step.moves (sym is ∙ ok_of result went)
+  pub goes_on : IsRunning old → (due : (e : Event) × (step_of (facts_of g old).stage ≡ Some e)) → IsStep g old due.0 a new → false ≡ is_err result → Goes (facts_of g old) (facts_of g new)
+  goes_on running due step went = step_goes (facts_of g old) (facts_of g new) due.0 a (runs_on g old running) due.1 step.moves (sym is ∙ ok_of result went)
 
-  pub ends_on : IsRunning old → (due : (e : Event) × (step_of (facts_of failures old).stage ≡ Some e)) → IsStep honest history failures old due.0 a new → IfErr result EndsEarly
-  ends_on running due step = subst (λ (r : Result (Unit {0}) Refusal). IfErr r EndsEarly) (sym is) (step_early (facts_of failures old) (facts_of failures new) due.0 a (runs_on failures old running) due.1 step.moves)
+  pub ends_on : IsRunning old → (due : (e : Event) × (step_of (facts_of g old).stage ≡ Some e)) → IsStep g old due.0 a new → IfErr result EndsEarly
+  ends_on running due step = subst (λ (r : Result (Unit {0}) Refusal). IfErr r EndsEarly) (sym is) (step_early (facts_of g old) (facts_of g new) due.0 a (runs_on g old running) due.1 step.moves)
 
 -- a step of the log, or a sync, where nothing refuses it
-module _ {D : Type 0} (honest : D → Type 0) (history : D → History) (failures : D → ℕ) (old new : Replica D) (e : Event) (a : Answer) (result : Result (Unit {0}) Refusal) (is : result ≡ outcome_of a)
-    (own : IsOwn e) (running : IsRunning old) (none : refusal_here (facts_of failures old) e ≡ None) (step : IsStep honest history failures old e a new) where
-  pub one_works : RunsAreJoined honest history failures → due (facts_of failures old) ≡ Some e → Works honest history failures old new result
-  one_works joined is_due = subst (λ (r : Result (Unit {0}) Refusal). Works honest history failures old new r) (sym is) (works_one honest history failures joined old new e a own (not_refused (facts_of failures old) e (runs_on failures old running) none) is_due step)
+module _ {D : Type 0} (g : Ghosts D) (old new : Replica D) (e : Event) (a : Answer) (result : Result (Unit {0}) Refusal) (is : result ≡ outcome_of a)
+    (own : IsOwn e) (running : IsRunning old) (none : refusal_here (facts_of g old) e ≡ None) (step : IsStep g old e a new) where
+  pub one_works : RunsAreJoined g → due (facts_of g old) ≡ Some e → Works g old new result
+  one_works joined is_due = subst (λ (r : Result (Unit {0}) Refusal). Works g old new r) (sym is) (works_one g joined old new e a own (not_refused (facts_of g old) e (runs_on g old running) none) is_due step)
 
   pub one_early : IfErr result EndsEarly
-  one_early = subst (λ (r : Result (Unit {0}) Refusal). IfErr r EndsEarly) (sym is) (early_by (facts_of failures old) (facts_of failures new) e a (not_refused (facts_of failures old) e (runs_on failures old running) none) step.moves)
+  one_early = subst (λ (r : Result (Unit {0}) Refusal). IfErr r EndsEarly) (sym is) (early_by (facts_of g old) (facts_of g new) e a (not_refused (facts_of g old) e (runs_on g old running) none) step.moves)
 
-  pub one_done : result ≡ Ok tt → (f : Found) × (facts_of failures new ≡ after (facts_of failures old) e f)
-  one_done done = done_by (facts_of failures old) (facts_of failures new) e a (not_refused (facts_of failures old) e (runs_on failures old running) none) step.moves (sym is ∙ done)
+  pub one_done : result ≡ Ok tt → (f : Found) × (facts_of g new ≡ after (facts_of g old) e f)
+  one_done done = done_by (facts_of g old) (facts_of g new) e a (not_refused (facts_of g old) e (runs_on g old running) none) step.moves (sym is ∙ done)
 
 pub on_ok : {P : Type 0} → (r : Result (Unit {0}) Refusal) → (r ≡ Ok tt → P) → OnOk r P
 on_ok (Ok x) f = f refl
@@ -407,17 +408,11 @@ ok_on (Ok x) p done = p
 ok_on (Err e) p done = absurd (let never : Err e ≡ Ok tt = done in cc)
 
 -- it still runs
-pub still_running : {D : Type 0} (failures : D → ℕ) (old new : Replica D) (e : Event) (f : Found) → IsRunning old → facts_of failures new ≡ after (facts_of failures old) e f → IsRunning new
-still_running failures old new e f running is = is_running failures new (ap (λ (x : Standing). x.stopped) is ∙ (after_serves (facts_of failures old) e f).stopped ∙ runs_on failures old running)
+pub still_running : {D : Type 0} (g : Ghosts D) (old new : Replica D) (e : Event) (f : Found) → IsRunning old → facts_of g new ≡ after (facts_of g old) e f → IsRunning new
+still_running g old new e f running is = is_running g new (ap (λ (x : Standing). x.stopped) is ∙ (after_serves (facts_of g old) e f).stopped ∙ runs_on g old running)
 
 pub rests_none : (s : Standing) → s.phase ≡ Resting → Rests s s
 rests_none s rests = record { phase = rests; ahead = refl; durable = refl; setting = refl; next = refl; start = refl }
 
 pub rests_then : (s t u : Standing) → Rests s t → Rests t u → Rests s u
 rests_then s t u a b = record { phase = b.phase; ahead = b.ahead ∙ a.ahead; durable = b.durable ∙ a.durable; setting = b.setting ∙ a.setting; next = b.next ∙ a.next; start = b.start ∙ a.start }
-
-pub none_due : (stage : Stage) → step_of stage ≡ None → stage ≡ Off
-none_due Off none = refl
-none_due (Toward goal part) none = absurd (let never : Some (step_of_part part) ≡ None = none in cc)
-none_due (Retiring false) none = absurd (let never : Some Check ≡ None = none in cc)
-none_due (Retiring true) none = absurd (let never : Some Sync ≡ None = none in cc)

@@ -1,7 +1,8 @@
 -- What a replica keeps that was stopped.
 use Rattle.std.proofs.Common.{◌≡◌, ℕ, ◌+◌, ◌-◌, List, length, length-drop, ap, ◌∙◌, arith}
 use Rattle.rep_types.specs.Order.{Order}
-use Rattle.rep_disk.specs.History.{History, IsImage}
+use Rattle.rep_disk.specs.declared.disk.Disk.{Ghosts}
+use Rattle.rep_disk.specs.History.{IsImage}
 use Rattle.rep_steps.specs.Standings.{Standing}
 use Rattle.rep_steps.specs.Nodes.{Node, IsNode}
 use Rattle.rep_steps.specs.Orders.{IsOf, NodesHoldTheOrder}
@@ -28,8 +29,8 @@ front_of hold fronts L n image node o f =
       stands = fronts L n f.end f.meaning node o f.front;
     }
 
-module _ {D : Type 0} (honest : D → Type 0) (history : D → History) (failures : D → ℕ) where
-  of_node : (n : Node) (r : Replica D) → Holds honest history failures n r → HoldsStopped honest history failures n r
+module _ {D : Type 0} (g : Ghosts D) where
+  of_node : (n : Node) (r : Replica D) → Holds g n r → HoldsStopped g n r
   of_node n r h = record {
     is_honest = h.engine.is_honest;
     node = h.node;
@@ -39,7 +40,7 @@ module _ {D : Type 0} (honest : D → Type 0) (history : D → History) (failure
     images = λ image is. whole_front n r.engine.block h.taken image (h.engine.images image is);
   }
 
-  of_engine : (n : Node) (r : Replica D) → EngineHolds honest history failures n r.engine → HoldsStopped honest history failures n r
+  of_engine : (n : Node) (r : Replica D) → EngineHolds g n r.engine → HoldsStopped g n r
   of_engine n r h = record {
     is_honest = h.is_honest;
     node = h.node;
@@ -50,8 +51,8 @@ module _ {D : Type 0} (honest : D → Type 0) (history : D → History) (failure
   }
 
   module _ (hold : NodesHoldTheOrder) (fronts : FrontsStandForTheOrder) where
-    leaves : (L : Order) (n : Node) (r : Replica D) → HoldsStopped honest history failures n r → IsOf L n → (image : List ℕ) → IsImage (history r.engine.disk) image → IsFrontOf Means n.facts.uuid n.facts.setting L n.facts.durable image
+    leaves : (L : Order) (n : Node) (r : Replica D) → HoldsStopped g n r → IsOf L n → (image : List ℕ) → IsImage (g.history r.engine.disk) image → IsFrontOf Means n.facts.uuid n.facts.setting L n.facts.durable image
     leaves L n r h o image is = front_of hold fronts L n image h.node o (h.images image is)
 
-    pub stopped_hold : StoppedReplicasHold honest history failures
+    pub stopped_hold : StoppedReplicasHold g
     stopped_hold = record { of_node = of_node; of_engine = of_engine; leaves = leaves }

@@ -6,6 +6,7 @@ use Rattle.std.proofs.lemmas.List.{take-append-drop, take-append-le, drop-append
 use Rattle.rep_types.specs.declared.judged.Judged.{Judged}
 use Rattle.rep_types.specs.Settings.{Setting}
 use Rattle.rep_types.specs.Order.{State}
+use Rattle.rep_disk.specs.declared.disk.Disk.{Ghosts}
 use Rattle.rep_disk.specs.History.{History}
 use Rattle.rep_disk.specs.Moments.{LeavesOnly}
 use Rattle.rep_disk.specs.Leaving.{leaves_weaker}
@@ -27,8 +28,8 @@ use Rattle.rep_replica.proofs.Lists.{drop_apart}
 -- ---- the facts
 
 -- where it was not stopped from outside they are the engine's, with all that was delivered
-pub running_facts : {D : Type 0} (failures : D → ℕ) (r : Replica D) → r.stopped ≡ false → facts_of failures r ≡ with_ahead (r.engine.block ++ r.backlog) (engine_facts failures r.engine)
-running_facts failures r running = ap (λ b. record (engine_facts failures r.engine) { ahead = r.engine.block ++ r.backlog; stopped = b || is_some r.engine.halted }) running
+pub running_facts : {D : Type 0} (g : Ghosts D) (r : Replica D) → r.stopped ≡ false → facts_of g r ≡ with_ahead (r.engine.block ++ r.backlog) (engine_facts g r.engine)
+running_facts g r running = ap (λ b. record (engine_facts g r.engine) { ahead = r.engine.block ++ r.backlog; stopped = b || is_some r.engine.halted }) running
 
 -- what the engine has and what waits is what the node has ahead
 pub ahead_of : (n : Node) (block : List Judged) (q : ℕ) → IsNode n → IsNode (part_of block q n) → q ≤ length n.items → n.facts.ahead ≡ block ++ drop q n.items
@@ -40,7 +41,7 @@ ahead_of n block q node part within =
 
 -- ---- the node
 
-module _ {D : Type 0} (honest : D → Type 0) (history : D → History) (failures : D → ℕ) (stay : NodesStayNodes) (goes : JudgingGoesOn) (old new : Replica D) (n : Node) (holds : Holds honest history failures n old) where
+module _ {D : Type 0} (g : Ghosts D) (stay : NodesStayNodes) (goes : JudgingGoesOn) (old new : Replica D) (n : Node) (holds : Holds g n old) where
   -- the windows from the later base on are those from the one before
   same_window : (to : Node) (past : ℕ) → to.facts.setting ≡ n.facts.setting → to.base ≡ reached n.facts.setting n.base (take past n.items) → to.items ≡ drop past n.items → past ≤ length n.items
       → (k : ℕ) → to.base.position ≤ k → window_at to k ≡ window_at n k
@@ -54,9 +55,9 @@ module _ {D : Type 0} (honest : D → Type 0) (history : D → History) (failure
       ∙ ap (λ i. (reached p to.base (take (k - i) (drop past n.items))).kept) at ∙ ap (λ (S : State). (reached p S (take more (drop past n.items))).kept) base
       ∙ ap (λ (S : State). S.kept) (sym (goes.reached_both p n.base front (take more (drop past n.items)))) ∙ ap (λ (js : List Judged). (reached p n.base js).kept) both
 
-  pub widened : (e : Event) (a : Answer) (part : Node) → Widens n part e a holds.taken → EngineHolds honest history failures part new.engine
+  pub widened : (e : Event) (a : Answer) (part : Node) → Widens n part e a holds.taken → EngineHolds g part new.engine
       → new.engine.checkpoint.base.params ≡ old.engine.checkpoint.base.params → new.backlog ≡ old.backlog → new.certifier ≡ old.certifier → new.stopped ≡ old.stopped
-      → (m : Node) × Steps n e a m × Holds honest history failures m new
+      → (m : Node) × Steps n e a m × Holds g m new
   widened e a part w engine params backlog certifier stopped =
       let to = w.to in
       let past = w.past in
@@ -65,14 +66,14 @@ module _ {D : Type 0} (honest : D → Type 0) (history : D → History) (failure
       let running : new.stopped ≡ false = stopped ∙ holds.running in
       let block : part.facts.ahead ≡ new.engine.block = ap (λ (s : Standing). s.ahead) engine.facts in
       let is_part : part ≡ part_of new.engine.block q to = w.is_part ∙ ap (λ (xs : List Judged). part_of xs q to) block in
-      let engine_to : EngineHolds honest history failures (part_of new.engine.block q to) new.engine = subst (λ (p : Node). EngineHolds honest history failures p new.engine) is_part engine in
+      let engine_to : EngineHolds g (part_of new.engine.block q to) new.engine = subst (λ (p : Node). EngineHolds g p new.engine) is_part engine in
       let few : past ≤ length n.items = omega (arith, w.within, holds.within) in
       let within : q ≤ length to.items = omega (arith, holds.within, ap length w.items, length-drop past n.items) in
       let left : drop q to.items ≡ drop holds.taken n.items = ap (drop q) w.items ∙ drop-drop q past n.items ∙ ap (λ i. drop i n.items) (omega (arith, w.within)) in
       let waiting : new.backlog ≡ drop q to.items = backlog ∙ holds.waiting ∙ sym left in
       let ahead : to.facts.ahead ≡ new.engine.block ++ new.backlog = ahead_of to new.engine.block q node engine_to.node within ∙ ap (λ (xs : List Judged). new.engine.block ++ xs) (sym waiting) in
-      let facts : to.facts ≡ facts_of failures new =
-      ap (λ (xs : List Judged). with_ahead xs to.facts) ahead ∙ ap (with_ahead (new.engine.block ++ new.backlog)) engine_to.facts ∙ sym (running_facts failures new running) in
+      let facts : to.facts ≡ facts_of g new =
+      ap (λ (xs : List Judged). with_ahead xs to.facts) ahead ∙ ap (with_ahead (new.engine.block ++ new.backlog)) engine_to.facts ∙ sym (running_facts g new running) in
       let setting : to.facts.setting ≡ n.facts.setting =
       ap (λ (s : Standing). s.setting) engine_to.facts ∙ params ∙ sym (ap (λ (s : Standing). s.setting) holds.engine.facts) in
       let behind : n.base.position ≤ to.base.position = omega (arith, ap (λ (S : State). S.position) w.base, goes.reached_position n.facts.setting n.base (take past n.items)) in (

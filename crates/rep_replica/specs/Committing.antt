@@ -3,7 +3,7 @@ use Rattle.std.specs.Prelude.{◌≡◌, ◌⊎◌, ℕ, ◌+◌, ◌<◌, ◌�
 use Rattle.rep_types.specs.declared.reply.Reply.{Reply}
 use Rattle.rep_types.specs.declared.refusal.Refusal.{Refusal}
 use Rattle.rep_types.specs.Replies.{reply_of}
-use Rattle.rep_disk.specs.History.{History}
+use Rattle.rep_disk.specs.declared.disk.Disk.{Ghosts}
 use Rattle.rep_log.specs.declared.phase.Phase.{Phase}
 use Rattle.rep_log.specs.declared.phase.Phase.TheVariants.{Resting, Closing, Filling, Filled, Opening}
 use Rattle.rep_steps.specs.declared.event.Event.{Event}
@@ -101,21 +101,21 @@ told_by (Err e) = []
 -- The replica took steps of its own, each in its turn, none of which was refused but the last one, where it ended early. The replies are
 -- exactly those that these steps gave. Where the log wasn't full, they flushed at most so many pages; where it was, the checkpoint was ended
 -- first. The next block is durable; and with a refusal nothing more is, and nothing that was delivered is lost.
-pub record Commits {D : Type 0} (honest : D → Type 0) (history : D → History) (failures : D → ℕ) (pages : ℕ) (old new : Replica D) (result : Result (List Reply) Refusal) : Type 0 where
-  pub works : WorksBy (IsTurn (is_full (facts_of failures old))) honest history failures old new (done_of result)
+pub record Commits {D : Type 0} (g : Ghosts D) (pages : ℕ) (old new : Replica D) (result : Result (List Reply) Refusal) : Type 0 where
+  pub works : WorksBy (IsTurn (is_full (facts_of g old))) g old new (done_of result)
   pub told : acknowledged works.answers ≡ told_by result
-  pub flushed : is_full (facts_of failures old) ≡ false → Flushed pages (pages_in works.events) (facts_of failures new).stage result
-  pub whole : is_full (facts_of failures old) ≡ true → IfOk result (λ _. (facts_of failures new).stage ≡ Off)
-  pub block : MatchResult result (λ replies. HasBlock (facts_of failures old) replies (facts_of failures new)) (λ _. Keeps (facts_of failures old) (facts_of failures new))
+  pub flushed : is_full (facts_of g old) ≡ false → Flushed pages (pages_in works.events) (facts_of g new).stage result
+  pub whole : is_full (facts_of g old) ≡ true → IfOk result (λ _. (facts_of g new).stage ≡ Off)
+  pub block : MatchResult result (λ replies. HasBlock (facts_of g old) replies (facts_of g new)) (λ _. Keeps (facts_of g old) (facts_of g new))
 
 -- ---- piece by piece
 
 -- The checkpoint under way, where one is, was moved on: so many pages may still be flushed; nothing else moved.
-pub record Rides {D : Type 0} (honest : D → Type 0) (history : D → History) (failures : D → ℕ) (pages : ℕ) (old new : Replica D) (result : Result ℕ Refusal) : Type 0 where
-  pub works : WorksBy (IsTurn false) honest history failures old new (done_of result)
-  pub flushed : MatchResult result (λ left. (pages_in works.events + left ≡ pages) × ((left ≡ 0) ⊎ (pages_left (facts_of failures new).stage ≡ []))) (λ _. pages_in works.events ≤ pages)
-  pub beside : MatchResult result (λ _. facts_of failures new ≡ record (facts_of failures old) { stage = (facts_of failures new).stage }) (λ _. Keeps (facts_of failures old) (facts_of failures new))
-  pub off : (facts_of failures old).stage ≡ Off → IfOk result (λ _. (facts_of failures new).stage ≡ Off)
+pub record Rides {D : Type 0} (g : Ghosts D) (pages : ℕ) (old new : Replica D) (result : Result ℕ Refusal) : Type 0 where
+  pub works : WorksBy (IsTurn false) g old new (done_of result)
+  pub flushed : MatchResult result (λ left. (pages_in works.events + left ≡ pages) × ((left ≡ 0) ⊎ (pages_left (facts_of g new).stage ≡ []))) (λ _. pages_in works.events ≤ pages)
+  pub beside : MatchResult result (λ _. facts_of g new ≡ record (facts_of g old) { stage = (facts_of g new).stage }) (λ _. Keeps (facts_of g old) (facts_of g new))
+  pub off : (facts_of g old).stage ≡ Off → IfOk result (λ _. (facts_of g new).stage ≡ Off)
 
 -- nothing became durable, and the same block is to come, for which the log has a cell
 pub record Nears (s t : Standing) : Type 0 where
@@ -139,14 +139,14 @@ abbrev pub told_in : Result (ℕ × List Reply) Refusal → List Reply
 told_in (Ok r) = r.1
 told_in (Err e) = []
 
-pub record Turns {D : Type 0} (honest : D → Type 0) (history : D → History) (failures : D → ℕ) (pages : ℕ) (old new : Replica D) (result : Result (ℕ × List Reply) Refusal) : Type 0 where
-  pub works : WorksBy (IsTurn false) honest history failures old new (done_of result)
+pub record Turns {D : Type 0} (g : Ghosts D) (pages : ℕ) (old new : Replica D) (result : Result (ℕ × List Reply) Refusal) : Type 0 where
+  pub works : WorksBy (IsTurn false) g old new (done_of result)
   pub told : acknowledged works.answers ≡ told_in result
   pub flushed : MatchResult result (λ r. pages_in works.events + r.0 ≡ pages) (λ _. pages_in works.events ≤ pages)
-  pub leads : MatchResult result (λ r. Leads (facts_of failures old) r.0 r.1 (facts_of failures new)) (λ _. Keeps (facts_of failures old) (facts_of failures new))
+  pub leads : MatchResult result (λ r. Leads (facts_of g old) r.0 r.1 (facts_of g new)) (λ _. Keeps (facts_of g old) (facts_of g new))
 
 -- Where the log was full, it has room: the checkpoint was ended, and where that didn't do, another one begun and ended.
-pub record Frees {D : Type 0} (honest : D → Type 0) (history : D → History) (failures : D → ℕ) (old new : Replica D) (result : Result (Unit {0}) Refusal) : Type 0 where
-  pub works : WorksBy (IsTurn true) honest history failures old new result
-  pub keeps : Keeps (facts_of failures old) (facts_of failures new)
-  pub room : IfOk result (λ _. LeavesRoom (facts_of failures old) (facts_of failures new) × ((facts_of failures new).stage ≡ Off))
+pub record Frees {D : Type 0} (g : Ghosts D) (old new : Replica D) (result : Result (Unit {0}) Refusal) : Type 0 where
+  pub works : WorksBy (IsTurn true) g old new result
+  pub keeps : Keeps (facts_of g old) (facts_of g new)
+  pub room : IfOk result (λ _. LeavesRoom (facts_of g old) (facts_of g new) × ((facts_of g new).stage ≡ Off))

@@ -3,6 +3,7 @@ use Rattle.std.specs.Prelude.{◌≡◌, ◌⊎◌, ℕ, ◌+◌, ◌<◌, ◌�
 use Rattle.rep_types.specs.declared.reply.Reply.{Reply}
 use Rattle.rep_types.specs.Settings.{Setting}
 use Rattle.rep_types.specs.Order.{Order, State, state}
+use Rattle.rep_disk.specs.declared.disk.Disk.{Ghosts}
 use Rattle.rep_disk.specs.History.{History, seen}
 use Rattle.rep_disk.specs.Moments.{moment, ImageSince, LeavesOnly}
 use Rattle.rep_layout.specs.Supers.{IsNil}
@@ -49,24 +50,24 @@ IsStill n m = m ≡ record n { facts = record n.facts { failures = m.facts.failu
 
 -- Some of a snapshot came, and it was given up: the replica stands for the node that it stood for, which is stopped where its device
 -- failed; and at each moment of it a stop leaves what means a front of that.
-pub record GaveUp {D : Type 0} (honest : D → Type 0) (history : D → History) (failures : D → ℕ) (n : Node) (old new : Replica D) : Type 0 where
+pub record GaveUp {D : Type 0} (g : Ghosts D) (n : Node) (old new : Replica D) : Type 0 where
   pub node : Node
   pub still : IsStill n node
-  pub holds : Holds honest history failures node new
-  pub leaves : LeavesOnly (history old.engine.disk) (history new.engine.disk) (IsFrontAt Means n)
+  pub holds : Holds g node new
+  pub leaves : LeavesOnly (g.history old.engine.disk) (g.history new.engine.disk) (IsFrontAt Means n)
 
 -- A snapshot came and took the base's place; and at each moment of it a stop leaves what means a front of the node, or the snapshot.
-pub record Brought {D : Type 0} (honest : D → Type 0) (history : D → History) (failures : D → ℕ) (n : Node) (uuid : List ℕ) (y : State) (old new : Replica D) : Type 0 where
+pub record Brought {D : Type 0} (g : Ghosts D) (n : Node) (uuid : List ℕ) (y : State) (old new : Replica D) : Type 0 where
   pub can : CanCome n uuid y
   pub node : Node
   pub stands : StandsAt n uuid y node
-  pub holds : Holds honest history failures node new
-  pub leaves : LeavesOnly (history old.engine.disk) (history new.engine.disk) (MeansOneOf n uuid y)
+  pub holds : Holds g node new
+  pub leaves : LeavesOnly (g.history old.engine.disk) (g.history new.engine.disk) (MeansOneOf n uuid y)
 
 -- The device failed while a snapshot took the base's place: no node is promised, and each stop leaves either.
-pub record Broke {D : Type 0} (history : D → History) (n : Node) (uuid : List ℕ) (y : State) (old new : Replica D) : Type 0 where
+pub record Broke {D : Type 0} (g : Ghosts D) (n : Node) (uuid : List ℕ) (y : State) (old new : Replica D) : Type 0 where
   pub can : CanCome n uuid y
-  pub leaves : LeavesOnly (history old.engine.disk) (history new.engine.disk) (MeansOneOf n uuid y)
+  pub leaves : LeavesOnly (g.history old.engine.disk) (g.history new.engine.disk) (MeansOneOf n uuid y)
 
 -- ---- what happens in a life
 
@@ -80,12 +81,12 @@ pub data Episode (D : Type 0) : Type 0 where
 
 -- Parts of a life one after another, from one replica to another. Where the device failed while a snapshot took the base's place, it is
 -- the last: the replica then refuses all that is asked of it, and nothing changes.
-abbrev pub AreEpisodes : {D : Type 0} → (D → Type 0) → (D → History) → (D → ℕ) → Replica D → List (Episode D) → Replica D → Type 0
-AreEpisodes honest history failures from [] last = from ≡ last
-AreEpisodes honest history failures from (Runs events answers to ∷ es) last = Ran honest history failures from to events answers × AreEpisodes honest history failures to es last
-AreEpisodes honest history failures from (GivesUp to ∷ es) last = ((n : Node) → Holds honest history failures n from → GaveUp honest history failures n from to) × AreEpisodes honest history failures to es last
-AreEpisodes honest history failures from (Brings uuid y to ∷ es) last = ((n : Node) → Holds honest history failures n from → Brought honest history failures n uuid y from to) × AreEpisodes honest history failures to es last
-AreEpisodes honest history failures from (Breaks uuid y to ∷ es) last = ((n : Node) → Holds honest history failures n from → Broke history n uuid y from to) × (es ≡ []) × (to ≡ last)
+abbrev pub AreEpisodes : {D : Type 0} → Ghosts D → Replica D → List (Episode D) → Replica D → Type 0
+AreEpisodes g from [] last = from ≡ last
+AreEpisodes g from (Runs events answers to ∷ es) last = Ran g from to events answers × AreEpisodes g to es last
+AreEpisodes g from (GivesUp to ∷ es) last = ((n : Node) → Holds g n from → GaveUp g n from to) × AreEpisodes g to es last
+AreEpisodes g from (Brings uuid y to ∷ es) last = ((n : Node) → Holds g n from → Brought g n uuid y from to) × AreEpisodes g to es last
+AreEpisodes g from (Breaks uuid y to ∷ es) last = ((n : Node) → Holds g n from → Broke g n uuid y from to) × (es ≡ []) × (to ≡ last)
 
 -- no device failed while a snapshot took the base's place
 abbrev pub AreWhole : {D : Type 0} → List (Episode D) → Type 0
@@ -109,18 +110,18 @@ pub record Life (D : Type 0) : Type 0 where
 
 -- A life on this image: the replica was opened on it, and the parts of the life followed; and the stop came at a moment behind the
 -- last answer, before, within or behind what had begun.
-pub record IsLife {D : Type 0} (honest : D → Type 0) (history : D → History) (failures : D → ℕ) (image : List ℕ) (life : Life D) : Type 0 where
+pub record IsLife {D : Type 0} (g : Ghosts D) (image : List ℕ) (life : Life D) : Type 0 where
   pub on : seen life.old ≡ image
-  pub opens : Opens honest history failures life.old life.start
+  pub opens : Opens g life.old life.start
   pub whole : AreWhole life.past
-  pub went : AreEpisodes honest history failures life.start life.past life.mid
-  pub went_on : AreEpisodes honest history failures life.mid life.begun life.last
-  pub stop : ImageSince (history life.last.engine.disk) (moment (history life.mid.engine.disk)) life.left
+  pub went : AreEpisodes g life.start life.past life.mid
+  pub went_on : AreEpisodes g life.mid life.begun life.last
+  pub stop : ImageSince (g.history life.last.engine.disk) (moment (g.history life.mid.engine.disk)) life.left
 
 -- Lives one after another, each on what the stop before it left.
-abbrev pub Lives : {D : Type 0} → (D → Type 0) → (D → History) → (D → ℕ) → List ℕ → List (Life D) → Type 0
-Lives honest history failures image [] = Unit {0}
-Lives honest history failures image (life ∷ lives) = IsLife honest history failures image life × Lives honest history failures life.left lives
+abbrev pub Lives : {D : Type 0} → Ghosts D → List ℕ → List (Life D) → Type 0
+Lives g image [] = Unit {0}
+Lives g image (life ∷ lives) = IsLife g image life × Lives g life.left lives
 
 -- ---- what it was fed
 
@@ -146,9 +147,9 @@ FedFrom uuid p O k (GivesUp to ∷ es) = FedFrom uuid p O k es
 FedFrom uuid p O k (Brings of y to ∷ es) = IsSnapshotOf uuid p O of y × FedFrom uuid p O y.position es
 FedFrom uuid p O k (Breaks of y to ∷ es) = IsSnapshotOf uuid p O of y
 
-abbrev pub AreFed : {D : Type 0} → (D → ℕ) → List ℕ → Setting → Order → List (Life D) → Type 0
-AreFed failures uuid p O [] = Unit {0}
-AreFed failures uuid p O (life ∷ lives) = FedFrom uuid p O (facts_of failures life.start).durable (life.past ++ life.begun) × AreFed failures uuid p O lives
+abbrev pub AreFed : {D : Type 0} → Ghosts D → List ℕ → Setting → Order → List (Life D) → Type 0
+AreFed g uuid p O [] = Unit {0}
+AreFed g uuid p O (life ∷ lives) = FedFrom uuid p O (facts_of g life.start).durable (life.past ++ life.begun) × AreFed g uuid p O lives
 
 -- ---- what comes of it
 
@@ -162,25 +163,25 @@ abbrev pub IsFrontIn : List ℕ → List ℕ → Setting → Order → ℕ → �
 IsFrontIn before uuid p O h d image = IsFrontOf Means uuid p (take h O) d image ⊎ (IsNil before × IsFrontOf Means before p [] d image)
 
 -- The replica stands for the node m, which is of a front of k items of the order, and no less is durable than at the node n before.
-pub record IsAtFront {D : Type 0} (honest : D → Type 0) (history : D → History) (failures : D → ℕ) (uuid : List ℕ) (p : Setting) (O : Order) (n : Node) (k : ℕ) (m : Node) (r : Replica D) : Type 0 where
+pub record IsAtFront {D : Type 0} (g : Ghosts D) (uuid : List ℕ) (p : Setting) (O : Order) (n : Node) (k : ℕ) (m : Node) (r : Replica D) : Type 0 where
   pub cluster : IsOfCluster n.facts.uuid uuid m.facts.uuid k
   pub setting_is : m.facts.setting ≡ p
   pub within : k ≤ length O
   pub of : IsOf (take k O) m
   pub least : n.facts.durable ≤ m.facts.durable
-  pub holds : Holds honest history failures m r
+  pub holds : Holds g m r
 
 -- Each part of a life goes on from a node of a front of the order to one of a longer front with no less durable: a run as a node that
 -- never stopped; a snapshot to where it is.
-abbrev pub EpisodesFollow : {D : Type 0} → (D → Type 0) → (D → History) → (D → ℕ) → List ℕ → Setting → Order → ℕ → Node → List (Episode D) → Type 0
-EpisodesFollow honest history failures uuid p O k n [] = Unit {0}
-EpisodesFollow honest history failures uuid p O k n (Runs events answers to ∷ es) =
-    (m : Node) × Follows O (take k O) n events answers m × IsAtFront honest history failures uuid p O n (k + length (accepted_by events answers)) m to
-    × EpisodesFollow honest history failures uuid p O (k + length (accepted_by events answers)) m es
-EpisodesFollow honest history failures uuid p O k n (GivesUp to ∷ es) = (m : Node) × IsStill n m × IsAtFront honest history failures uuid p O n k m to × EpisodesFollow honest history failures uuid p O k m es
-EpisodesFollow honest history failures uuid p O k n (Brings of y to ∷ es) =
-    (m : Node) × (k ≤ y.position) × StandsAt n of y m × IsAtFront honest history failures uuid p O n y.position m to × EpisodesFollow honest history failures uuid p O y.position m es
-EpisodesFollow honest history failures uuid p O k n (Breaks of y to ∷ es) = k ≤ y.position
+abbrev pub EpisodesFollow : {D : Type 0} → Ghosts D → List ℕ → Setting → Order → ℕ → Node → List (Episode D) → Type 0
+EpisodesFollow g uuid p O k n [] = Unit {0}
+EpisodesFollow g uuid p O k n (Runs events answers to ∷ es) =
+    (m : Node) × Follows O (take k O) n events answers m × IsAtFront g uuid p O n (k + length (accepted_by events answers)) m to
+    × EpisodesFollow g uuid p O (k + length (accepted_by events answers)) m es
+EpisodesFollow g uuid p O k n (GivesUp to ∷ es) = (m : Node) × IsStill n m × IsAtFront g uuid p O n k m to × EpisodesFollow g uuid p O k m es
+EpisodesFollow g uuid p O k n (Brings of y to ∷ es) =
+    (m : Node) × (k ≤ y.position) × StandsAt n of y m × IsAtFront g uuid p O n y.position m to × EpisodesFollow g uuid p O y.position m es
+EpisodesFollow g uuid p O k n (Breaks of y to ∷ es) = k ≤ y.position
 
 -- the replies that were given
 abbrev pub replies_of : {D : Type 0} → List (Episode D) → List Reply
@@ -193,26 +194,26 @@ replies_of (Breaks uuid y to ∷ es) = replies_of es
 -- A life follows the order, of which d items were durable before it and h delivered or brought, and these replies given: opened on a
 -- front of the order, or still of no cluster, it goes on as a node that never stopped; and what the stop left stands for a front of
 -- what was delivered or brought that has all that was durable behind the last answer, or it is still of no cluster.
-pub record LifeFollows {D : Type 0} (honest : D → Type 0) (history : D → History) (failures : D → ℕ) (before uuid : List ℕ) (p : Setting) (O : Order) (d h : ℕ) (given : List Reply) (life : Life D) : Type 0 where
+pub record LifeFollows {D : Type 0} (g : Ghosts D) (before uuid : List ℕ) (p : Setting) (O : Order) (d h : ℕ) (given : List Reply) (life : Life D) : Type 0 where
   pub own : List ℕ
   pub position : ℕ
   pub cluster : IsOfCluster before uuid own position
   pub start : Node
-  pub opens : OpensOn honest history failures own p O d h given life.start position start
-  pub follow : EpisodesFollow honest history failures uuid p O position start (life.past ++ life.begun)
-  pub front : IsFrontIn (facts_of failures life.mid).uuid uuid p O (reached_by position (life.past ++ life.begun)) (facts_of failures life.mid).durable life.left
+  pub opens : OpensOn g own p O d h given life.start position start
+  pub follow : EpisodesFollow g uuid p O position start (life.past ++ life.begun)
+  pub front : IsFrontIn (facts_of g life.mid).uuid uuid p O (reached_by position (life.past ++ life.begun)) (facts_of g life.mid).durable life.left
 
 -- Each life begins on a front that has what was durable behind the last answer of the one before it, and no more than was delivered or
 -- brought in that; and so each item to whose origin any of them replied.
-abbrev pub LivesFollow : {D : Type 0} → (D → Type 0) → (D → History) → (D → ℕ) → List ℕ → List ℕ → Setting → Order → ℕ → ℕ → List Reply → List (Life D) → Type 0
-LivesFollow honest history failures before uuid p O d h given [] = Unit {0}
-LivesFollow honest history failures before uuid p O d h given (life ∷ lives) =
-    LifeFollows honest history failures before uuid p O d h given life
-    × LivesFollow honest history failures (facts_of failures life.mid).uuid uuid p O (facts_of failures life.mid).durable (reached_by (facts_of failures life.start).durable (life.past ++ life.begun)) (given ++ replies_of life.past) lives
+abbrev pub LivesFollow : {D : Type 0} → Ghosts D → List ℕ → List ℕ → Setting → Order → ℕ → ℕ → List Reply → List (Life D) → Type 0
+LivesFollow g before uuid p O d h given [] = Unit {0}
+LivesFollow g before uuid p O d h given (life ∷ lives) =
+    LifeFollows g before uuid p O d h given life
+    × LivesFollow g (facts_of g life.mid).uuid uuid p O (facts_of g life.mid).durable (reached_by (facts_of g life.start).durable (life.past ++ life.begun)) (given ++ replies_of life.past) lives
 
 -- Lives that are fed an order and snapshots of it follow it, from an image on that stands for a front of the h items of it that were
 -- delivered, with d of them, or that is of no cluster yet.
-abbrev pub LivesWithSnapshotsFollowTheOrder : {D : Type 0} → (D → Type 0) → (D → History) → (D → ℕ) → Type 0
-LivesWithSnapshotsFollowTheOrder {D} honest history failures =
-    (before uuid : List ℕ) (p : Setting) (O : Order) (d h : ℕ) (image : List ℕ) (lives : List (Life D)) → IsFrontIn before uuid p O h d image → Lives honest history failures image lives → AreFed failures uuid p O lives
-    → LivesFollow honest history failures before uuid p O d h [] lives
+abbrev pub LivesWithSnapshotsFollowTheOrder : {D : Type 0} → Ghosts D → Type 0
+LivesWithSnapshotsFollowTheOrder {D} g =
+    (before uuid : List ℕ) (p : Setting) (O : Order) (d h : ℕ) (image : List ℕ) (lives : List (Life D)) → IsFrontIn before uuid p O h d image → Lives g image lives → AreFed g uuid p O lives
+    → LivesFollow g before uuid p O d h [] lives

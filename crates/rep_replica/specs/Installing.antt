@@ -4,7 +4,8 @@ use Rattle.std.specs.Coded.{Coded, codes, code_by, coded×}
 use Rattle.rep_types.specs.declared.refusal.Refusal.{Refusal}
 use Rattle.rep_types.specs.declared.refusal.Refusal.TheVariants.{DiskFault}
 use Rattle.rep_types.specs.Order.{State}
-use Rattle.rep_disk.specs.History.{History, IsImage}
+use Rattle.rep_disk.specs.declared.disk.Disk.{Ghosts}
+use Rattle.rep_disk.specs.History.{IsImage}
 use Rattle.rep_disk.specs.Moments.{LeavesOnly}
 use Rattle.rep_layout.specs.declared.super_body.SuperBody.{SuperBody}
 use Rattle.rep_cert.specs.Holdings.{Holdings, IsAskable, window_of, made_at}
@@ -48,8 +49,8 @@ pub record IsBringing (s : Standing) (i : Coming) (before after : Holdings) : Ty
 
 -- The replica stands for the node, on an honest device, and beside its base the snapshot is as far as it says, and brings y. Each image
 -- means a front of the node that has what is durable.
-pub record HoldsBoth {D : Type 0} (honest : D → Type 0) (history : D → History) (failures : D → ℕ) (n : Node) (y : State) (b : Bringing D) : Type 0 where
-  pub engine : EngineHoldsBoth honest history failures n y b.engine b.coming
+pub record HoldsBoth {D : Type 0} (g : Ghosts D) (n : Node) (y : State) (b : Bringing D) : Type 0 where
+  pub engine : EngineHoldsBoth g n y b.engine b.coming
   pub judged : AreJudgedFrom n.facts.setting n.base n.items
   pub windows : (k : ℕ) → n.base.position ≤ k → IsAskable b.before.current k → window_of b.before.current k ≡ window_at n k
 
@@ -67,16 +68,16 @@ pub record IsInstalled (b : SuperBody) (y : State) (m : Node) : Type 0 where
   pub running : m.facts.stopped ≡ false
 
 -- What a stop leaves on an honest device means a front of the node.
-pub record LeavesFronts {D : Type 0} (honest : D → Type 0) (history : D → History) (n : Node) (r : Replica D) : Type 0 where
-  pub is_honest : honest r.engine.disk
-  pub images : (image : List ℕ) → IsImage (history r.engine.disk) image → IsFrontAt Means n image
+pub record LeavesFronts {D : Type 0} (g : Ghosts D) (n : Node) (r : Replica D) : Type 0 where
+  pub is_honest : g.honest r.engine.disk
+  pub images : (image : List ℕ) → IsImage (g.history r.engine.disk) image → IsFrontAt Means n image
 
 -- What comes of an installation on an honest device: the node that stands at the snapshot; or, where the device failed, a replica that
 -- refuses everything, each image of whose device means what it was, or the snapshot, whole. And so does each at every moment of it.
-pub record Installs {D : Type 0} (honest : D → Type 0) (history : D → History) (failures : D → ℕ) (n : Node) (y : State) (old : Bringing D) (new : Replica D) (result : Result (Unit {0}) Refusal) : Type 0 where
-  pub holds : OnOk result ((m : Node) × IsInstalled old.coming.next.super y m × Holds honest history failures m new)
-  pub either : OnErr result (HoldsEither honest history n old.coming.next.super y new.engine)
-  pub leaves : LeavesOnly (history old.engine.disk) (history new.engine.disk) (MeansEither n old.coming.next.super y)
+pub record Installs {D : Type 0} (g : Ghosts D) (n : Node) (y : State) (old : Bringing D) (new : Replica D) (result : Result (Unit {0}) Refusal) : Type 0 where
+  pub holds : OnOk result ((m : Node) × IsInstalled old.coming.next.super y m × Holds g m new)
+  pub either : OnErr result (HoldsEither g n old.coming.next.super y new.engine)
+  pub leaves : LeavesOnly (g.history old.engine.disk) (g.history new.engine.disk) (MeansEither n old.coming.next.super y)
 
 -- And on any device: where it succeeds the facts are those of a quiet node at the snapshot; where the device failed it is stopped.
 pub record IsAt (b : SuperBody) (s : Standing) : Type 0 where
@@ -87,6 +88,6 @@ pub record IsAt (b : SuperBody) (s : Standing) : Type 0 where
   pub quiet : is_quiet s ≡ true
   pub running : s.stopped ≡ false
 
-pub record Lands {D : Type 0} (failures : D → ℕ) (old : Bringing D) (new : Replica D) (result : Result (Unit {0}) Refusal) : Type 0 where
-  pub done : OnOk result (IsAt old.coming.next.super (facts_of failures new))
-  pub fault : IfErr result (λ e. (e ≡ DiskFault) × ((facts_of failures new).stopped ≡ true))
+pub record Lands {D : Type 0} (g : Ghosts D) (old : Bringing D) (new : Replica D) (result : Result (Unit {0}) Refusal) : Type 0 where
+  pub done : OnOk result (IsAt old.coming.next.super (facts_of g new))
+  pub fault : IfErr result (λ e. (e ≡ DiskFault) × ((facts_of g new).stopped ≡ true))

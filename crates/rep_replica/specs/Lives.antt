@@ -7,6 +7,7 @@ use Rattle.rep_types.specs.Gtids.{Gtid}
 use Rattle.rep_types.specs.Replies.{reply_of}
 use Rattle.rep_types.specs.Settings.{Setting}
 use Rattle.rep_types.specs.Order.{Order, history as history_of, read, state}
+use Rattle.rep_disk.specs.declared.disk.Disk.{Ghosts}
 use Rattle.rep_disk.specs.History.{History, seen}
 use Rattle.rep_disk.specs.Moments.{moment, ImageSince}
 use Rattle.rep_steps.specs.declared.event.Event.{Event}
@@ -43,26 +44,26 @@ pub record Life (D : Type 0) : Type 0 where
 
 -- A life on this image: the replica was opened on it and ran the events; and the stop came at a moment behind the last answer, before
 -- or within the call that had begun.
-pub record IsLife {D : Type 0} (honest : D → Type 0) (history : D → History) (failures : D → ℕ) (image : List ℕ) (life : Life D) : Type 0 where
+pub record IsLife {D : Type 0} (g : Ghosts D) (image : List ℕ) (life : Life D) : Type 0 where
   pub on : seen life.old ≡ image
-  pub opens : Opens honest history failures life.old life.start
-  pub ran : Ran honest history failures life.start life.mid life.events life.answers
-  pub ran_on : Ran honest history failures life.mid life.last life.begun life.untold
-  pub stop : ImageSince (history life.last.engine.disk) (moment (history life.mid.engine.disk)) life.left
+  pub opens : Opens g life.old life.start
+  pub ran : Ran g life.start life.mid life.events life.answers
+  pub ran_on : Ran g life.mid life.last life.begun life.untold
+  pub stop : ImageSince (g.history life.last.engine.disk) (moment (g.history life.mid.engine.disk)) life.left
 
 -- Lives one after another, each on what the stop before it left.
-abbrev pub Lives : {D : Type 0} → (D → Type 0) → (D → History) → (D → ℕ) → List ℕ → List (Life D) → Type 0
-Lives honest history failures image [] = Unit {0}
-Lives honest history failures image (life ∷ lives) = IsLife honest history failures image life × Lives honest history failures life.left lives
+abbrev pub Lives : {D : Type 0} → Ghosts D → List ℕ → List (Life D) → Type 0
+Lives g image [] = Unit {0}
+Lives g image (life ∷ lives) = IsLife g image life × Lives g life.left lives
 
 -- What a life delivered are the order's items from where it stood.
-pub record IsFed {D : Type 0} (failures : D → ℕ) (O : Order) (life : Life D) : Type 0 where
+pub record IsFed {D : Type 0} (g : Ghosts D) (O : Order) (life : Life D) : Type 0 where
   pub rest : Order
-  pub whole : ((take (facts_of failures life.start).durable O ++ accepted_by life.events life.answers) ++ accepted_by life.begun life.untold) ++ rest ≡ O
+  pub whole : ((take (facts_of g life.start).durable O ++ accepted_by life.events life.answers) ++ accepted_by life.begun life.untold) ++ rest ≡ O
 
-abbrev pub AreFed : {D : Type 0} → (D → ℕ) → Order → List (Life D) → Type 0
-AreFed failures O [] = Unit {0}
-AreFed failures O (life ∷ lives) = IsFed failures O life × AreFed failures O lives
+abbrev pub AreFed : {D : Type 0} → Ghosts D → Order → List (Life D) → Type 0
+AreFed g O [] = Unit {0}
+AreFed g O (life ∷ lives) = IsFed g O life × AreFed g O lives
 
 -- ---- what comes of it
 
@@ -110,16 +111,16 @@ gtid_at uuid position = record { uuid = uuid; seqno = if is_nil_bytes uuid then 
 
 -- What opening the disk gives: a front of the order, of this many of its items, with at least d of them, at most h, and each item to
 -- whose origin a reply was given. GTID, rows and window are those behind this front. And the replica stands for a node of it.
-pub record OpensOn {D : Type 0} (honest : D → Type 0) (history : D → History) (failures : D → ℕ) (uuid : List ℕ) (p : Setting) (O : Order) (d h : ℕ) (given : List Reply) (r : Replica D) (position : ℕ) (n : Node) : Type 0 where
+pub record OpensOn {D : Type 0} (g : Ghosts D) (uuid : List ℕ) (p : Setting) (O : Order) (d h : ℕ) (given : List Reply) (r : Replica D) (position : ℕ) (n : Node) : Type 0 where
   pub least : d ≤ position
   pub most : position ≤ h
   pub within : position ≤ length O
   pub kept : AreRepliesOf (take position (history_of p O)) given
-  pub durable : (facts_of failures r).durable ≡ position
-  pub delivered_is : delivered (facts_of failures r) ≡ position
+  pub durable : (facts_of g r).durable ≡ position
+  pub delivered_is : delivered (facts_of g r) ≡ position
   pub gtid : gtid_of r.engine ≡ gtid_at uuid position
   pub state_is : state_at n position ≡ state p (take position O)
-  pub holds : Holds honest history failures n r
+  pub holds : Holds g n r
   pub uuid_is : n.facts.uuid ≡ uuid
   pub setting_is : n.facts.setting ≡ p
   pub of : IsOf (take position O) n
@@ -127,29 +128,29 @@ pub record OpensOn {D : Type 0} (honest : D → Type 0) (history : D → History
 -- A life follows the order, of which d items were durable before it and h delivered, and these replies given: opened on a front of the
 -- order, it goes on as a node that never stopped, with what it answered and with what it had begun; and what the stop left stands
 -- for a front of what was delivered that has all that was durable behind the last answer.
-pub record LifeFollows {D : Type 0} (honest : D → Type 0) (history : D → History) (failures : D → ℕ) (uuid : List ℕ) (p : Setting) (O : Order) (d h : ℕ) (given : List Reply) (life : Life D) : Type 0 where
+pub record LifeFollows {D : Type 0} (g : Ghosts D) (uuid : List ℕ) (p : Setting) (O : Order) (d h : ℕ) (given : List Reply) (life : Life D) : Type 0 where
   pub position : ℕ
   pub start : Node
-  pub opens : OpensOn honest history failures uuid p O d h given life.start position start
+  pub opens : OpensOn g uuid p O d h given life.start position start
   pub mid : Node
-  pub came : Holds honest history failures mid life.mid
+  pub came : Holds g mid life.mid
   pub follows : Follows O (take position O) start life.events life.answers mid
   pub last : Node
-  pub went_on : Holds honest history failures last life.last
+  pub went_on : Holds g last life.last
   pub follows_on : Follows O (take position O ++ accepted_by life.events life.answers) mid life.begun life.untold last
-  pub front : IsFrontOf Means uuid p (take (delivered (facts_of failures life.last)) O) (facts_of failures life.mid).durable life.left
+  pub front : IsFrontOf Means uuid p (take (delivered (facts_of g life.last)) O) (facts_of g life.mid).durable life.left
 
 -- Each life begins on a front that has what was durable behind the last answer of the one before it, and no more than was delivered
 -- in that; and so each item to whose origin any of them replied.
-abbrev pub LivesFollow : {D : Type 0} → (D → Type 0) → (D → History) → (D → ℕ) → List ℕ → Setting → Order → ℕ → ℕ → List Reply → List (Life D) → Type 0
-LivesFollow honest history failures uuid p O d h given [] = Unit {0}
-LivesFollow honest history failures uuid p O d h given (life ∷ lives) =
-    LifeFollows honest history failures uuid p O d h given life
-    × LivesFollow honest history failures uuid p O (facts_of failures life.mid).durable (delivered (facts_of failures life.last)) (given ++ acknowledged life.answers) lives
+abbrev pub LivesFollow : {D : Type 0} → Ghosts D → List ℕ → Setting → Order → ℕ → ℕ → List Reply → List (Life D) → Type 0
+LivesFollow g uuid p O d h given [] = Unit {0}
+LivesFollow g uuid p O d h given (life ∷ lives) =
+    LifeFollows g uuid p O d h given life
+    × LivesFollow g uuid p O (facts_of g life.mid).durable (delivered (facts_of g life.last)) (given ++ acknowledged life.answers) lives
 
 -- Lives that are fed an order follow it, from an image on that stands for a front of the h items of it that were delivered, with d of
 -- them.
-abbrev pub LivesFollowTheOrder : {D : Type 0} → (D → Type 0) → (D → History) → (D → ℕ) → Type 0
-LivesFollowTheOrder {D} honest history failures =
-    (uuid : List ℕ) (p : Setting) (O : Order) (d h : ℕ) (image : List ℕ) (lives : List (Life D)) → IsFrontOf Means uuid p (take h O) d image → Lives honest history failures image lives → AreFed failures O lives
-    → LivesFollow honest history failures uuid p O d h [] lives
+abbrev pub LivesFollowTheOrder : {D : Type 0} → Ghosts D → Type 0
+LivesFollowTheOrder {D} g =
+    (uuid : List ℕ) (p : Setting) (O : Order) (d h : ℕ) (image : List ℕ) (lives : List (Life D)) → IsFrontOf Means uuid p (take h O) d image → Lives g image lives → AreFed g O lives
+    → LivesFollow g uuid p O d h [] lives

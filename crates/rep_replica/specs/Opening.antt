@@ -1,5 +1,6 @@
 -- What opening makes of a device.
 use Rattle.std.specs.Prelude.{◌≡◌, ℕ, Bool, false, []}
+use Rattle.rep_disk.specs.declared.disk.Disk.{Ghosts}
 use Rattle.rep_disk.specs.History.{History, Synced, seen}
 use Rattle.rep_steps.specs.Images.{Meaning, opened, OpensTheOrder}
 use Rattle.rep_image.specs.Meanings.{Means}
@@ -15,10 +16,10 @@ pub record Begins {D : Type 0} (size : ℕ) (r : Replica D) : Type 0 where
 
 -- On an honest device: it was synced, and nothing else; its bytes mean something; and the replica stands for the node that opening
 -- makes of that, which is one of each order that the bytes stand for.
-pub record Opens {D : Type 0} (honest : D → Type 0) (history : D → History) (failures : D → ℕ) (old : History) (r : Replica D) : Type 0 where
-  pub synced : history r.engine.disk ≡ Synced old
+pub record Opens {D : Type 0} (g : Ghosts D) (old : History) (r : Replica D) : Type 0 where
+  pub synced : g.history r.engine.disk ≡ Synced old
   pub meaning : Meaning
   pub means : Means (seen old) meaning
   pub gates : ℕ → Bool
-  pub opens : OpensTheOrder (facts_of failures r) gates meaning
-  pub holds : Holds honest history failures (opened (facts_of failures r) gates meaning) r
+  pub opens : OpensTheOrder (facts_of g r) gates meaning
+  pub holds : Holds g (opened (facts_of g r) gates meaning) r

@@ -1,5 +1,5 @@
 -- What a replica holds, on any device: its facts, and what is so of it whatever the device does.
-use Rattle.std.specs.Prelude.{◌≡◌, ℕ, ◌+◌, ◌||◌, Bool, true, false, is_some, List, [], ◌∷◌, ◌++◌, length, refl}
+use Rattle.std.specs.Prelude.{◌≡◌, ◌+◌, ◌||◌, Bool, true, false, is_some, List, [], ◌∷◌, ◌++◌, length, refl}
 use Rattle.std.specs.Coded.{Coded, codes, code_by, coded×}
 use Rattle.rep_types.specs.declared.judged.Judged.{Judged}
 use Rattle.rep_record.specs.Records.{is_placed}
@@ -8,6 +8,7 @@ use Rattle.rep_steps.specs.Standings.{Standing, delivered}
 use Rattle.rep_engine.specs.Engines.{Engine, engine_code, facts_of as engine_facts}
 use Rattle.rep_engine.specs.Accepting.{ComeNext}
 use Rattle.rep_engine.specs.Checking.{HoldsWindows}
+use Rattle.rep_disk.specs.declared.disk.Disk.{Ghosts}
 
 -- What a replica holds: the engine, the delivered items that the engine has not accepted, what the certifier holds, and whether
 -- it was stopped from outside.
@@ -30,10 +31,14 @@ replica_code {D} code =
     (λ r. (r.engine, (r.backlog, (r.certifier, r.stopped))))
     (λ c. record { engine = c.0; backlog = c.1.0; certifier = c.1.1.0; stopped = c.1.1.1 }) (λ _. refl)
 
+-- Only the engine's device was asked, and nothing else of the replica changed.
+abbrev pub OnlyItsEngineAsks : {D : Type 0} → Replica D → Replica D → Type 0
+OnlyItsEngineAsks old new = new ≡ record old { engine = record old.engine { disk = new.engine.disk; halted = new.engine.halted } }
+
 -- The facts: those of the engine, with all that was delivered and is not durable ahead; it is stopped where the device failed,
 -- or from outside.
-abbrev pub facts_of : {D : Type 0} → (D → ℕ) → Replica D → Standing
-facts_of failures r = record (engine_facts failures r.engine) { ahead = r.engine.block ++ r.backlog; stopped = r.stopped || is_some r.engine.halted }
+abbrev pub facts_of : {D : Type 0} → Ghosts D → Replica D → Standing
+facts_of g r = record (engine_facts g r.engine) { ahead = r.engine.block ++ r.backlog; stopped = r.stopped || is_some r.engine.halted }
 
 -- Each has a place in a block: its seqno is one, and its verdict fits that.
 abbrev pub ArePlaced : List Judged → Type 0

@@ -3,7 +3,7 @@ use Rattle.std.specs.Prelude.{◌≡◌, ◌↔◌, ℕ, ◌+◌, ◌*◌, ◌&&
 use Rattle.rep_types.specs.declared.refusal.Refusal.{Refusal}
 use Rattle.rep_types.specs.declared.refusal.Refusal.TheVariants.{OutOfMemory, DiskFault, Corrupt}
 use Rattle.rep_types.specs.declared.refusal.Part.TheVariants.{Pages}
-use Rattle.rep_disk.specs.History.{History}
+use Rattle.rep_disk.specs.declared.disk.Disk.{Ghosts}
 use Rattle.rep_log.specs.declared.phase.Phase.{Phase}
 use Rattle.rep_log.specs.declared.phase.Phase.TheVariants.{Resting, Closing, Filling, Filled, Opening}
 use Rattle.rep_log.specs.Standing.{stands_at, index_of}
@@ -105,20 +105,20 @@ EndsIn (Err e) answers = (done : List Answer) × AreDone done × (answers ≡ do
 -- The replica took some steps of its own one after another, each where the rule allows it, none of which was refused but the last one, where
 -- it ended early: a run on any device, and one of the node that it stands for. A device is honest behind it exactly where it was before;
 -- a corrupt page is one that its last step flushed, where the bytes have none; and what a refusal leaves is what that step left.
-pub record WorksBy (rule : Standing → Event → Type 0) {D : Type 0} (honest : D → Type 0) (history : D → History) (failures : D → ℕ) (old new : Replica D) (result : Result (Unit {0}) Refusal) : Type 0 where
+pub record WorksBy (rule : Standing → Event → Type 0) {D : Type 0} (g : Ghosts D) (old new : Replica D) (result : Result (Unit {0}) Refusal) : Type 0 where
   pub events : List Event
   pub answers : List Answer
   pub own : AreOwn events
   pub ends : EndsIn result answers
-  pub moves : Runs (Allows rule) (facts_of failures old) events answers (facts_of failures new)
-  pub steps : Runs (IsStep honest history failures) old events answers new
-  pub device : honest old.engine.disk ↔ honest new.engine.disk
-  pub corrupt : result ≡ Err (Corrupt Pages) → MeetsBadPage honest history new
-  pub ran : Ran honest history failures old new events answers
+  pub moves : Runs (Allows rule) (facts_of g old) events answers (facts_of g new)
+  pub steps : Runs (IsStep g) old events answers new
+  pub device : g.honest old.engine.disk ↔ g.honest new.engine.disk
+  pub corrupt : result ≡ Err (Corrupt Pages) → MeetsBadPage g new
+  pub ran : Ran g old new events answers
 
 -- each the one that is due
-abbrev pub Works : {D : Type 0} → (D → Type 0) → (D → History) → (D → ℕ) → Replica D → Replica D → Result (Unit {0}) Refusal → Type 0
-Works honest history failures old new result = WorksBy IsNext honest history failures old new result
+abbrev pub Works : {D : Type 0} → Ghosts D → Replica D → Replica D → Result (Unit {0}) Refusal → Type 0
+Works g old new result = WorksBy IsNext g old new result
 
 -- why a step of its own is refused that is due
 abbrev pub EndsEarly : Refusal → Type 0
@@ -176,7 +176,7 @@ left_in s stale (Filled n) = 2
 left_in s stale (Opening n) = 1
 
 -- each item may need a block of its own
-abbrev pub work_of : {D : Type 0} → (D → ℕ) → Replica D → ℕ
-work_of failures r =
-    let s = facts_of failures r in
+abbrev pub work_of : {D : Type 0} → Ghosts D → Replica D → ℕ
+work_of g r =
+    let s = facts_of g r in
     8 * length s.ahead + left_in s (stands_at r.engine.log (index_of r.engine.log)) s.phase

@@ -23,7 +23,7 @@ impl<D: Disk> Replica<D> {
     /// Whether the log's next cell is live, where nothing of the next block was written.
     fn is_full(&self) -> bool
         requires running { IsRunning self.now }
-        ensures full { result ≡ is_full (facts_of D.failures self.now) }
+        ensures full { result ≡ is_full (facts_of D.Disk self.now) }
         ensures due { result ≡ true → due_of self.now.engine.log ≡ Full }
     {
         // Tells the proof what holds of the engine.
@@ -38,7 +38,7 @@ impl<D: Disk> Replica<D> {
     fn awaits_sync(&self) -> bool
         requires running { IsRunning self.now }
         ensures sync { result ≡ true → due_of self.now.engine.log ≡ to_sync }
-        ensures write { result ≡ false → is_full (facts_of D.failures self.now) ≡ false → IsWrite (due_of self.now.engine.log) }
+        ensures write { result ≡ false → is_full (facts_of D.Disk self.now) ≡ false → IsWrite (due_of self.now.engine.log) }
     {
         // Tells the proof what holds of the engine.
         let _durable = self.engine.durable();
@@ -50,14 +50,14 @@ impl<D: Disk> Replica<D> {
 
     /// Whether all that was delivered is durable.
     fn has_none(&self) -> bool
-        ensures { result ≡ (length (facts_of D.failures self.now).ahead == 0) }
+        ensures { result ≡ (length (facts_of D.Disk self.now).ahead == 0) }
     {
         self.backlog.is_empty() && self.engine.delivered() == self.engine.durable()
     }
 
     /// The page that the checkpoint under way flushes next, where one more may be.
     fn next_page(&self, pages: u64) -> Option<u64>
-        ensures { MatchOption result ((pages ≡ 0) ⊎ (pages_left (facts_of D.failures self.now).stage ≡ [])) (λ page. (0 < pages) × (step_of (facts_of D.failures self.now).stage ≡ Some (Flush page))) }
+        ensures { MatchOption result ((pages ≡ 0) ⊎ (pages_left (facts_of D.Disk self.now).stage ≡ [])) (λ page. (0 < pages) × (step_of (facts_of D.Disk self.now).stage ≡ Some (Flush page))) }
     {
         if pages == 0 {
             return None;
@@ -71,7 +71,7 @@ impl<D: Disk> Replica<D> {
     /// Flushes pages of the checkpoint under way, at most so many, and gives how many more may be.
     fn flush_some(&mut self, pages: u64) -> Result<u64, Refusal>
         requires running { IsRunning self.old }
-        ensures rides { Rides D.honest D.history D.failures pages self.old self.new result }
+        ensures rides { Rides D.Disk pages self.old self.new result }
         ensures running { OnOk result (IsRunning self.new) }
         ensures early { IfErr result EndsEarly }
     {
@@ -91,7 +91,7 @@ impl<D: Disk> Replica<D> {
     /// last of them. Gives how many more pages may be flushed.
     fn ride(&mut self, pages: u64) -> Result<u64, Refusal>
         requires running { IsRunning self.old }
-        ensures rides { Rides D.honest D.history D.failures pages self.old self.new result }
+        ensures rides { Rides D.Disk pages self.old self.new result }
         ensures running { OnOk result (IsRunning self.new) }
         ensures early { IfErr result EndsEarly }
     {
@@ -114,9 +114,9 @@ impl<D: Disk> Replica<D> {
     fn sync_block(&mut self, pages: u64) -> Result<(u64, Replies), Refusal>
         requires running { IsRunning self.old }
         requires awaits { due_of self.old.engine.log ≡ to_sync }
-        ensures turns { Turns D.honest D.history D.failures pages self.old self.new result }
+        ensures turns { Turns D.Disk pages self.old self.new result }
         ensures running { OnOk result (IsRunning self.new) }
-        ensures less { OnOk result (work_of D.failures self.new < work_of D.failures self.old) }
+        ensures less { OnOk result (work_of D.Disk self.new < work_of D.Disk self.old) }
         ensures early { IfErr result EndsEarly }
     {
         runs_are_joined::<D>();
@@ -137,12 +137,12 @@ impl<D: Disk> Replica<D> {
     /// What the log writes next. It needs no page, and gives no reply.
     fn write_next(&mut self, pages: u64) -> Result<(u64, Replies), Refusal>
         requires running { IsRunning self.old }
-        requires some { 0 < length (facts_of D.failures self.old).ahead }
-        requires free { is_full (facts_of D.failures self.old) ≡ false }
+        requires some { 0 < length (facts_of D.Disk self.old).ahead }
+        requires free { is_full (facts_of D.Disk self.old) ≡ false }
         requires due { IsWrite (due_of self.old.engine.log) }
-        ensures turns { Turns D.honest D.history D.failures pages self.old self.new result }
+        ensures turns { Turns D.Disk pages self.old self.new result }
         ensures running { OnOk result (IsRunning self.new) }
-        ensures less { OnOk result (work_of D.failures self.new < work_of D.failures self.old) }
+        ensures less { OnOk result (work_of D.Disk self.new < work_of D.Disk self.old) }
         ensures early { IfErr result EndsEarly }
     {
         runs_are_joined::<D>();
@@ -161,11 +161,11 @@ impl<D: Disk> Replica<D> {
     /// What the log writes next, or the sync that it awaits. Gives how many more pages may be flushed, and the replies.
     fn turn(&mut self, pages: u64) -> Result<(u64, Replies), Refusal>
         requires running { IsRunning self.old }
-        requires some { 0 < length (facts_of D.failures self.old).ahead }
-        requires free { is_full (facts_of D.failures self.old) ≡ false }
-        ensures turns { Turns D.honest D.history D.failures pages self.old self.new result }
+        requires some { 0 < length (facts_of D.Disk self.old).ahead }
+        requires free { is_full (facts_of D.Disk self.old) ≡ false }
+        ensures turns { Turns D.Disk pages self.old self.new result }
         ensures running { OnOk result (IsRunning self.new) }
-        ensures less { OnOk result (work_of D.failures self.new < work_of D.failures self.old) }
+        ensures less { OnOk result (work_of D.Disk self.new < work_of D.Disk self.old) }
         ensures early { IfErr result EndsEarly }
     {
         if self.awaits_sync() {
@@ -177,11 +177,11 @@ impl<D: Disk> Replica<D> {
     /// Makes the next block durable, where the log has a cell for it.
     fn write_block(&mut self, pages: u64) -> Result<Replies, Refusal>
         requires running { IsRunning self.old }
-        requires some { 0 < length (facts_of D.failures self.old).ahead }
-        requires free { is_full (facts_of D.failures self.old) ≡ false }
-        ensures commits { Commits D.honest D.history D.failures pages self.old self.new result }
+        requires some { 0 < length (facts_of D.Disk self.old).ahead }
+        requires free { is_full (facts_of D.Disk self.old) ≡ false }
+        ensures commits { Commits D.Disk pages self.old self.new result }
         ensures running { OnOk result (IsRunning self.new) }
-        ensures off { (facts_of D.failures self.old).stage ≡ Off → OnOk result ((facts_of D.failures self.new).stage ≡ Off) }
+        ensures off { (facts_of D.Disk self.old).stage ≡ Off → OnOk result ((facts_of D.Disk self.new).stage ≡ Off) }
         ensures early { IfErr result EndsEarly }
     {
         runs_are_joined::<D>();
@@ -200,9 +200,9 @@ impl<D: Disk> Replica<D> {
     /// free it, a whole one more.
     fn free_cell(&mut self) -> Result<(), Refusal>
         requires running { IsRunning self.old }
-        requires some { 0 < length (facts_of D.failures self.old).ahead }
-        requires full { is_full (facts_of D.failures self.old) ≡ true }
-        ensures frees { Frees D.honest D.history D.failures self.old self.new result }
+        requires some { 0 < length (facts_of D.Disk self.old).ahead }
+        requires full { is_full (facts_of D.Disk self.old) ≡ true }
+        ensures frees { Frees D.Disk self.old self.new result }
         ensures running { OnOk result (IsRunning self.new) }
         ensures early { IfErr result EndsEarly }
     {
@@ -229,12 +229,12 @@ impl<D: Disk> Replica<D> {
     /// page that the checkpoint flushes next is not of its form, of its number, and of a position not above the base's. Behind a
     /// refusal no more is durable than before the call, so there is no reply to give, and what was delivered still is.
     pub fn commit_block(&mut self, pages: u64) -> Result<Replies, Refusal>
-        ensures commits { (self.old.stopped || is_some self.old.engine.halted) ≡ false → 0 < length (facts_of D.failures self.old).ahead → Commits D.honest D.history D.failures pages self.old self.new result }
+        ensures commits { (self.old.stopped || is_some self.old.engine.halted) ≡ false → 0 < length (facts_of D.Disk self.old).ahead → Commits D.Disk pages self.old self.new result }
         ensures refused { IfErr result (λ e. (e ≡ Refusal.Stopped) ⊎ EndsEarly e) }
         // Where it succeeds it is not stopped.
         ensures running { OnOk result ((self.new.stopped || is_some self.new.engine.halted) ≡ false) }
         // Where nothing waits, nothing is done.
-        ensures none { (self.old.stopped || is_some self.old.engine.halted) ≡ false → length (facts_of D.failures self.old).ahead ≡ 0 → (result ≡ Ok []) × (self.new ≡ self.old) }
+        ensures none { (self.old.stopped || is_some self.old.engine.halted) ≡ false → length (facts_of D.Disk self.old).ahead ≡ 0 → (result ≡ Ok []) × (self.new ≡ self.old) }
         // Where it is stopped, nothing changes.
         ensures stopped { (self.old.stopped || is_some self.old.engine.halted) ≡ true → (result ≡ Err Refusal.Stopped) × (self.new ≡ self.old) }
     {

@@ -3,8 +3,8 @@
 ghost use Rattle.std.specs.Prelude.{◌≡◌, ◌↔◌, ◌⊎◌, ◌||◌, true, false, [], None, Some, Ok, Err, is_some, IfOk, IfErr, IfSome, OnOk, OnErr};
 ghost use Rattle.rep_types.specs.declared.refusal.Refusal.TheVariants.{Stopped, OutOfMemory, DiskFault};
 ghost use Rattle.rep_types.specs.Order.{State};
-ghost use Rattle.rep_disk.specs.Calls.{IsCall};
 ghost use Rattle.rep_disk.specs.Moments.{LeavesOnly};
+ghost use Rattle.rep_disk.specs.Devices.{Calls};
 ghost use Rattle.rep_cert.specs.Holdings.{made_at};
 ghost use Rattle.rep_log.specs.declared.phase.Phase.TheVariants.{Resting};
 ghost use Rattle.rep_log.specs.Moves.{fault_of};
@@ -62,7 +62,7 @@ impl<D: Disk> Model for Installation<D> {
 
     ghost view = { λ i. record { engine = i.engine.engine; coming = i.engine.coming; before = i.before; after = i.after } };
 
-    ghost invariant = { λ i. (i.backlog ≡ []) × IsBringing (engine_facts D.failures i.engine.engine) i.engine.coming i.before i.after };
+    ghost invariant = { λ i. (i.backlog ≡ []) × IsBringing (engine_facts D.Disk i.engine.engine) i.engine.coming i.before i.after };
 }
 
 /// The certifier that goes on from a state with this window, and the window.
@@ -96,14 +96,14 @@ impl<D: Disk> Replica<D> {
         position: u64,
         window: Window,
     ) -> Result<Installation<D>, (Replica<D>, Refusal)>
-        requires quiet { is_quiet (facts_of D.failures self) ≡ true }
+        requires quiet { is_quiet (facts_of D.Disk self) ≡ true }
         requires brings { CanBring self.engine.checkpoint.base (durable_of self.engine.log) uuid position window }
         ensures stopped { (self.stopped || is_some self.engine.halted) ≡ true → result ≡ Err (self, Stopped) }
         ensures refused { IfErr result (λ e. (e.0 ≡ self) × (((e.1 ≡ Stopped) × ((self.stopped || is_some self.engine.halted) ≡ true)) ⊎ (e.1 ≡ OutOfMemory))) }
         ensures begun { IfOk result (λ i. (i.engine ≡ self.engine) × (i.coming ≡ coming self.engine.checkpoint.base uuid position self.engine.log.next window)) }
         // What `give_up` gives back has the certifier that the replica has.
         ensures before { IfOk result (λ i. i.before ≡ self.certifier) }
-        ensures holds { (n : Node) → Holds D.honest D.history D.failures n self → IfOk result (λ i. HoldsBoth D.honest D.history D.failures n (blank position window) i) }
+        ensures holds { (n : Node) → Holds D.Disk n self → IfOk result (λ i. HoldsBoth D.Disk n (blank position window) i) }
     {
         // Tells the proof what holds of the engine.
         let _durable = self.engine.durable();
@@ -144,14 +144,14 @@ impl<D: Disk> Replica<D> {
     /// Closes the superblock before the base's, and makes that stable.
     fn retire(&mut self) -> Result<(), Refusal>
         requires running { IsRunning self.old }
-        requires retiring { (facts_of D.failures self.old).stage ≡ Retiring false }
-        requires resting { (facts_of D.failures self.old).phase ≡ Resting }
-        ensures done { OnOk result (facts_of D.failures self.new ≡ record (facts_of D.failures self.old) { stage = Off }) }
-        ensures fault { IfErr result (λ e. (e ≡ DiskFault) × ((facts_of D.failures self.new).stopped ≡ true)) }
+        requires retiring { (facts_of D.Disk self.old).stage ≡ Retiring false }
+        requires resting { (facts_of D.Disk self.old).phase ≡ Resting }
+        ensures done { OnOk result (facts_of D.Disk self.new ≡ record (facts_of D.Disk self.old) { stage = Off }) }
+        ensures fault { IfErr result (λ e. (e ≡ DiskFault) × ((facts_of D.Disk self.new).stopped ≡ true)) }
         ensures told { TellsFaults (D.failures self.old.engine.disk) (D.failures self.new.engine.disk) result }
-        ensures holds { (n : Node) → Holds D.honest D.history D.failures n self.old → OnOk result (Holds D.honest D.history D.failures (record n { facts = record n.facts { stage = Off } }) self.new) }
-        ensures fronts { (n : Node) → Holds D.honest D.history D.failures n self.old → OnErr result (LeavesFronts D.honest D.history n self.new) }
-        ensures leaves { (n : Node) → Holds D.honest D.history D.failures n self.old → LeavesOnly (D.history self.old.engine.disk) (D.history self.new.engine.disk) (IsFrontAt Means n) }
+        ensures holds { (n : Node) → Holds D.Disk n self.old → OnOk result (Holds D.Disk (record n { facts = record n.facts { stage = Off } }) self.new) }
+        ensures fronts { (n : Node) → Holds D.Disk n self.old → OnErr result (LeavesFronts D.Disk n self.new) }
+        ensures leaves { (n : Node) → Holds D.Disk n self.old → LeavesOnly (D.history self.old.engine.disk) (D.history self.new.engine.disk) (IsFrontAt Means n) }
     {
         let checked = outcome(&self.check());
         if checked.is_err() {
@@ -197,18 +197,18 @@ impl<D: Disk> Installation<D> {
     /// stopped, and otherwise as it was.
     pub fn put_page(&mut self, page: u32, rows: PageRows) -> Result<(), Refusal>
         requires page { IsNewPage self.old.engine.checkpoint.base self.old.coming.next page rows }
-        ensures call { IsCall D.size D.failures D.honest self.old.engine.disk self.new.engine.disk (fault_of result) }
+        ensures call { Calls D.Disk self.old.engine.disk self.new.engine.disk (fault_of result) }
         ensures rest { self.new ≡ record (self.old) { engine = record (self.old.engine) { disk = self.new.engine.disk; halted = self.new.engine.halted }; coming = self.new.coming } }
         ensures stopped { IfSome self.old.engine.halted (λ _. (result ≡ Err Stopped) × (self.new ≡ self.old)) }
         ensures running { self.old.engine.halted ≡ None → (self.new.engine.halted ≡ halted_by self.old.engine.log.phase result) × IfErr result (λ e. e ≡ DiskFault) }
         ensures done { OnOk result (self.new.coming ≡ placed self.old.engine.checkpoint.base page self.old.coming) }
         ensures fault { OnErr result (self.new.coming ≡ self.old.coming) }
         // Its position in the bytes is the snapshot's.
-        ensures written { self.old.engine.halted ≡ None → WritesComing D.honest D.history self.old.engine.layout self.old.engine.checkpoint.base self.old.coming page rows self.old.engine.disk self.new.engine.disk result }
+        ensures written { self.old.engine.halted ≡ None → WritesComing D.Disk self.old.engine.layout self.old.engine.checkpoint.base self.old.coming page rows self.old.engine.disk self.new.engine.disk result }
         // Where it succeeds, the snapshot brings the page's rows too.
-        ensures holds { (n : Node) → (y : State) → HoldsBoth D.honest D.history D.failures n y self.old → OnOk result (HoldsBoth D.honest D.history D.failures n (with_page self.old.engine.checkpoint.base.params.rows page rows y) self.new) }
-        ensures halts { (n : Node) → (y : State) → HoldsBoth D.honest D.history D.failures n y self.old → IfErr result (λ e. e ≡ DiskFault → HoldsBoth D.honest D.history D.failures (halted_node (D.failures self.new.engine.disk) n) y self.new) }
-        ensures leaves { (n : Node) → (y : State) → HoldsBoth D.honest D.history D.failures n y self.old → LeavesOnly (D.history self.old.engine.disk) (D.history self.new.engine.disk) (IsFrontAt Means n) }
+        ensures holds { (n : Node) → (y : State) → HoldsBoth D.Disk n y self.old → OnOk result (HoldsBoth D.Disk n (with_page self.old.engine.checkpoint.base.params.rows page rows y) self.new) }
+        ensures halts { (n : Node) → (y : State) → HoldsBoth D.Disk n y self.old → IfErr result (λ e. e ≡ DiskFault → HoldsBoth D.Disk (halted_node (D.failures self.new.engine.disk) n) y self.new) }
+        ensures leaves { (n : Node) → (y : State) → HoldsBoth D.Disk n y self.old → LeavesOnly (D.history self.old.engine.disk) (D.history self.new.engine.disk) (IsFrontAt Means n) }
     {
         self.engine.put_page(page, rows)
     }
@@ -216,7 +216,7 @@ impl<D: Disk> Installation<D> {
     /// Gives the snapshot up: the replica is as it was before, whatever pages came. The device is not asked.
     pub fn give_up(self) -> Replica<D>
         ensures replica { result ≡ given_up self }
-        ensures holds { (n : Node) → (y : State) → HoldsBoth D.honest D.history D.failures n y self → Holds D.honest D.history D.failures n result }
+        ensures holds { (n : Node) → (y : State) → HoldsBoth D.Disk n y self → Holds D.Disk n result }
     {
         let Installation {
             engine,
@@ -235,9 +235,9 @@ impl<D: Disk> Installation<D> {
     /// Lets the snapshot take the base's place, where the device has not failed before.
     fn take_place(self) -> (Replica<D>, Result<(), Refusal>)
         requires running { self.engine.halted ≡ None }
-        ensures lands { Lands D.failures self result.0 result.1 }
+        ensures lands { Lands D.Disk self result.0 result.1 }
         ensures told { TellsFaults (D.failures self.engine.disk) (D.failures result.0.engine.disk) result.1 }
-        ensures installs { (n : Node) → (y : State) → HoldsBoth D.honest D.history D.failures n y self → Installs D.honest D.history D.failures n y self result.0 result.1 }
+        ensures installs { (n : Node) → (y : State) → HoldsBoth D.Disk n y self → Installs D.Disk n y self result.0 result.1 }
     {
         certifiers_hold_windows();
         let Installation {
@@ -276,10 +276,10 @@ impl<D: Disk> Installation<D> {
     /// and what is opened on its disk is either what it was or the snapshot.
     pub fn end(self) -> (Replica<D>, Result<(), Refusal>)
         ensures stopped { IfSome self.engine.halted (λ _. result ≡ (given_up self, Err Stopped)) }
-        ensures lands { self.engine.halted ≡ None → Lands D.failures self result.0 result.1 }
+        ensures lands { self.engine.halted ≡ None → Lands D.Disk self result.0 result.1 }
         // It is refused by the device alone, and exactly where that failed.
         ensures told { TellsFaults (D.failures self.engine.disk) (D.failures result.0.engine.disk) result.1 }
-        ensures installs { (n : Node) → (y : State) → HoldsBoth D.honest D.history D.failures n y self → Installs D.honest D.history D.failures n y self result.0 result.1 }
+        ensures installs { (n : Node) → (y : State) → HoldsBoth D.Disk n y self → Installs D.Disk n y self result.0 result.1 }
     {
         if self.is_stopped() {
             return (self.give_up(), Err(Refusal::Stopped));

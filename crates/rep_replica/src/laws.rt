@@ -29,7 +29,7 @@ fn runs_follow_the_order()
 
 /// What a stop leaves, and what is opened on that.
 fn stops_leave_what_holds<D: Disk>()
-    ensures { StopsLeaveWhatHolds D.honest D.history D.failures }
+    ensures { StopsLeaveWhatHolds D.Disk }
 {
     images_mean_one_thing();
     stopped_replicas_hold::<D>();
@@ -47,7 +47,7 @@ fn stops_leave_what_holds<D: Disk>()
 ///
 /// The first image stands for a front of the order, as one does that was just formatted, of the empty one.
 pub fn lives_follow_the_order<D: Disk>()
-    ensures { LivesFollowTheOrder D.honest D.history D.failures }
+    ensures { LivesFollowTheOrder D.Disk }
 {
     runs_follow_the_order();
     stops_leave_what_holds::<D>();
@@ -65,7 +65,7 @@ pub fn lives_follow_the_order<D: Disk>()
 ///
 /// The first image stands for a front of the order, or is of no cluster, as one is that was formatted to join.
 pub fn lives_with_snapshots_follow_the_order<D: Disk>()
-    ensures { LivesWithSnapshotsFollowTheOrder D.honest D.history D.failures }
+    ensures { LivesWithSnapshotsFollowTheOrder D.Disk }
 {
     runs_follow_the_order();
     stops_leave_what_holds::<D>();
@@ -77,14 +77,14 @@ pub fn lives_with_snapshots_follow_the_order<D: Disk>()
 /// replica stands for that ends exactly at what is durable, or, while the gate of a block is opening, at that with
 /// the whole block. So nothing that was only delivered comes back after a stop, and no part of a block.
 pub fn running_replicas_leave_their_ends<D: Disk>(replica: &Replica<D>)
-    ensures { LeavesItsEnds D.honest D.history D.failures replica.now }
+    ensures { LeavesItsEnds D.Disk replica.now }
 {
     running_engines_leave_their_ends(&replica.engine);
 }
 
 /// What the certifier of a replica says of an item is what the node does that the replica stands for.
 pub fn certifiers_judge_as_nodes<D: Disk>(replica: &Replica<D>)
-    ensures { JudgesAsItsNode D.honest D.history D.failures replica.now }
+    ensures { JudgesAsItsNode D.Disk replica.now }
 {
     // For its clause: what holds of every replica.
     replica.durable();
@@ -95,7 +95,7 @@ pub fn certifiers_judge_as_nodes<D: Disk>(replica: &Replica<D>)
 /// whatever its other parts are: what `from_parts` puts together as stopped can be opened again, once `into_disk`
 /// gave its device back.
 pub fn stopped_replicas_hold<D: Disk>()
-    ensures { StoppedReplicasHold D.honest D.history D.failures }
+    ensures { StoppedReplicasHold D.Disk }
 {
     nodes_hold_the_order();
     fronts_stand_for_the_order();
@@ -105,7 +105,7 @@ pub fn stopped_replicas_hold<D: Disk>()
 /// the second from where the first led, are the run of both lists. So who drives a replica by `step`, `read` and
 /// `settle` has a run, as `run` has.
 pub fn runs_are_joined<D: Disk>()
-    ensures { RunsAreJoined D.honest D.history D.failures }
+    ensures { RunsAreJoined D.Disk }
 {
     rep_steps::runs_are_joined::<Replica<D>>();
 }
@@ -114,7 +114,7 @@ pub fn runs_are_joined<D: Disk>()
 /// the read met a fault of the device and stopped the replica. And a row that it answers is the row of each such
 /// order.
 pub fn reads_forget_nothing<D: Disk>()
-    ensures { ReadsForgetNothing D.size D.failures D.honest D.history }
+    ensures { ReadsForgetNothing D.Disk }
 {
     nodes_outlast_failures();
     steps_follow_the_order();

@@ -2,7 +2,7 @@
 
 ghost use Rattle.std.specs.Prelude.{◌≡◌, ◌<◌, Ok, Err, IfOk, IfErr, MatchResult};
 ghost use Rattle.rep_disk.specs.History.{seen};
-ghost use Rattle.rep_disk.specs.Calls.{IsCall};
+ghost use Rattle.rep_disk.specs.Devices.{Calls};
 ghost use Rattle.rep_layout.specs.Places.{need_of};
 ghost use Rattle.rep_recover.specs.Looking.{fault_in};
 ghost use Rattle.rep_recover.specs.Opening.{without_log, RefusesToOpen, IsUnwritten};
@@ -27,11 +27,11 @@ impl<D: Disk> Replica<D> {
     /// superblock, window, log and pages that is not of the form; with `OutOfMemory`; and with `DiskFault` where
     /// the device failed.
     pub fn open(alloc: Global, disk: D) -> Result<Replica<D>, (D, Refusal)>
-        ensures call { MatchResult result (λ r. IsCall {T = Unit {0}} D.size D.failures D.honest disk r.engine.disk (Ok tt)) (λ x. IsCall D.size D.failures D.honest disk x.0 (fault_in x.1)) }
+        ensures call { MatchResult result (λ r. Calls {T = Unit {0}} D.Disk disk r.engine.disk (Ok tt)) (λ x. Calls D.Disk disk x.0 (fault_in x.1)) }
         ensures small { D.size disk < need_of without_log → result ≡ Err (disk, Refusal.NotFormatted) }
         ensures unwritten { D.honest disk → IfErr result (λ x. IsUnwritten (D.history disk) (D.history x.0)) }
         ensures begins { IfOk result (λ r. Begins (D.size disk) r) }
-        ensures opens { D.honest disk → IfOk result (λ r. Opens D.honest D.history D.failures (D.history disk) r) }
+        ensures opens { D.honest disk → IfOk result (λ r. Opens D.Disk (D.history disk) r) }
         ensures refused { IfErr result (λ x. RefusesToOpen (D.honest disk) (seen (D.history disk)) x.1) }
     {
         let (engine, certifier) = open_disk(alloc, disk)?;

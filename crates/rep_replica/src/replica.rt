@@ -45,7 +45,7 @@ impl<D: Disk> Model for Replica<D> {
 
     ghost view = { λ r. record { engine = r.engine; backlog = r.backlog; certifier = r.certifier; stopped = r.stopped } };
 
-    ghost invariant = { λ r. IsReplica (engine_facts D.failures r.engine) r.backlog r.certifier.current r.stopped };
+    ghost invariant = { λ r. IsReplica (engine_facts D.Disk r.engine) r.backlog r.certifier.current r.stopped };
 }
 
 impl<D: Disk> Replica<D> {
@@ -61,7 +61,7 @@ impl<D: Disk> Replica<D> {
         engine: Engine<D>,
         stopped: bool,
     ) -> Replica<D>
-        requires { IsReplica (engine_facts D.failures engine) backlog certifier.current stopped }
+        requires { IsReplica (engine_facts D.Disk engine) backlog certifier.current stopped }
         ensures { result ≡ record { engine = engine; backlog = backlog; certifier = certifier; stopped = stopped } }
     {
         Replica {
@@ -76,7 +76,7 @@ impl<D: Disk> Replica<D> {
     pub fn into_parts(self) -> (Certifier, Backlog, Engine<D>)
         ensures parts { (result.0 ≡ self.certifier) × (result.1 ≡ self.backlog) × (result.2 ≡ self.engine) }
         // What holds of every replica.
-        ensures replica { IsReplica (engine_facts D.failures self.engine) self.backlog self.certifier.current self.stopped }
+        ensures replica { IsReplica (engine_facts D.Disk self.engine) self.backlog self.certifier.current self.stopped }
     {
         let Replica {
             engine,
@@ -119,7 +119,7 @@ impl<D: Disk> Replica<D> {
     /// How many items were delivered.
     pub fn delivered(&self) -> u64
         ensures certifier { result ≡ self.now.certifier.current.delivered }
-        ensures facts { self.now.stopped ≡ false → result ≡ delivered (facts_of D.failures self.now) }
+        ensures facts { self.now.stopped ≡ false → result ≡ delivered (facts_of D.Disk self.now) }
     {
         self.certifier.delivered()
     }
@@ -128,7 +128,7 @@ impl<D: Disk> Replica<D> {
     pub fn durable(&self) -> u64
         ensures durable { result ≡ durable_of self.now.engine.log }
         // What holds of every replica.
-        ensures replica { IsReplica (engine_facts D.failures self.now.engine) self.now.backlog self.now.certifier.current self.now.stopped }
+        ensures replica { IsReplica (engine_facts D.Disk self.now.engine) self.now.backlog self.now.certifier.current self.now.stopped }
     {
         self.engine.durable()
     }
@@ -152,7 +152,7 @@ impl<D: Disk> Replica<D> {
     /// the window's size commits.
     pub fn judge(&self, item: &Item) -> Verdict
         ensures certifier { result ≡ verdict_of self.now.certifier.current item.now }
-        ensures node { (n : Node) → Holds D.honest D.history D.failures n self.now → result ≡ verdict_for n item.now }
+        ensures node { (n : Node) → Holds D.Disk n self.now → result ≡ verdict_for n item.now }
     {
         self.certifier.judge_item(item)
     }
@@ -170,7 +170,7 @@ impl<D: Disk> Replica<D> {
     /// Refuses with `OutOfMemory` where the list cannot grow.
     pub fn window(&self, alloc: Global) -> Result<Window, Refusal>
         ensures window { IfOk result (λ window. window ≡ window_of self.now.certifier.current (durable_of self.now.engine.log)) }
-        ensures node { (n : Node) → Holds D.honest D.history D.failures n self.now → IfOk result (λ window. window ≡ window_at n n.facts.durable) }
+        ensures node { (n : Node) → Holds D.Disk n self.now → IfOk result (λ window. window ≡ window_at n n.facts.durable) }
         ensures refused { IfErr result (λ refusal. refusal ≡ Refusal.OutOfMemory) }
     {
         let durable = self.engine.durable();

@@ -17,9 +17,9 @@ impl<D: Disk> Core for Replica<D> {
     ghost use Rattle.rep_replica.specs.Replicas.{facts_of};
     ghost use Rattle.rep_replica.specs.Holding.{Holds};
 
-    ghost facts = { facts_of D.failures };
+    ghost facts = { facts_of D.Disk };
 
-    ghost holds = { Holds D.honest D.history D.failures };
+    ghost holds = { Holds D.Disk };
 
     ghost history = { λ r. D.history r.engine.disk };
 
@@ -39,9 +39,9 @@ impl<D: Disk> Replica<D> {
     ///
     /// Refuses with `OutOfMemory`, before the first of them, where there is no room for the answers.
     pub fn run(&mut self, alloc: Global, events: &[Event]) -> Result<Vec<Answer>, Refusal>
-        ensures moves { IfOk result (λ answers. Runs Moves (facts_of D.failures self.old) events.now answers.items (facts_of D.failures self.new)) }
+        ensures moves { IfOk result (λ answers. Runs Moves (facts_of D.Disk self.old) events.now answers.items (facts_of D.Disk self.new)) }
         // It is a run of the node, and at each moment of it a stop leaves images that stand for a front of the order.
-        ensures steps { IfOk result (λ answers. Ran D.honest D.history D.failures self.old self.new events.now answers.items) }
+        ensures steps { IfOk result (λ answers. Ran D.Disk self.old self.new events.now answers.items) }
         ensures refused { IfErr result (λ refusal. refusal ≡ Refusal.OutOfMemory) }
         ensures unchanged { OnErr result (self.new ≡ self.old) }
     {

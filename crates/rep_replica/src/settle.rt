@@ -33,7 +33,7 @@ pub(crate) fn outcome(answer: &Answer) -> Result<(), Refusal>
 impl<D: Disk> Replica<D> {
     /// Whether all that was delivered is durable, and no checkpoint is under way.
     pub fn is_quiet(&self) -> bool
-        ensures { result ≡ is_quiet (facts_of D.failures self.now) }
+        ensures { result ≡ is_quiet (facts_of D.Disk self.now) }
     {
         self.backlog.is_empty()
             && self.engine.delivered() == self.engine.durable()
@@ -42,7 +42,7 @@ impl<D: Disk> Replica<D> {
 
     /// The step that the checkpoint under way waits for.
     pub(crate) fn checkpoint_event(&self) -> Option<Event>
-        ensures { result ≡ step_of (facts_of D.failures self.now).stage }
+        ensures { result ≡ step_of (facts_of D.Disk self.now).stage }
     {
         match self.engine.checkpoint_step() {
             CheckpointStep::Begin => None,
@@ -55,11 +55,11 @@ impl<D: Disk> Replica<D> {
     /// Ends the checkpoint that is under way, where one is.
     pub(crate) fn finish_checkpoint(&mut self) -> Result<(), Refusal>
         requires running { IsRunning self.old }
-        ensures works { Works D.honest D.history D.failures self.old self.new result }
+        ensures works { Works D.Disk self.old self.new result }
         ensures running { OnOk result (IsRunning self.new) }
-        ensures off { OnOk result ((facts_of D.failures self.new).stage ≡ Off) }
-        ensures keeps { (facts_of D.failures self.old).phase ≡ Resting → Keeps (facts_of D.failures self.old) (facts_of D.failures self.new) }
-        ensures rests { (facts_of D.failures self.old).phase ≡ Resting → OnOk result (Rests (facts_of D.failures self.old) (facts_of D.failures self.new)) }
+        ensures off { OnOk result ((facts_of D.Disk self.new).stage ≡ Off) }
+        ensures keeps { (facts_of D.Disk self.old).phase ≡ Resting → Keeps (facts_of D.Disk self.old) (facts_of D.Disk self.new) }
+        ensures rests { (facts_of D.Disk self.old).phase ≡ Resting → OnOk result (Rests (facts_of D.Disk self.old) (facts_of D.Disk self.new)) }
         ensures early { IfErr result EndsEarly }
     {
         runs_are_joined::<D>();
@@ -76,15 +76,15 @@ impl<D: Disk> Replica<D> {
     /// A whole checkpoint, so that the log's next cell is no longer live.
     pub(crate) fn make_room(&mut self) -> Result<(), Refusal>
         requires running { IsRunning self.old }
-        requires off { (facts_of D.failures self.old).stage ≡ Off }
-        requires some { 0 < length (facts_of D.failures self.old).ahead }
+        requires off { (facts_of D.Disk self.old).stage ≡ Off }
+        requires some { 0 < length (facts_of D.Disk self.old).ahead }
         requires due { due_of self.old.engine.log ≡ Full }
-        ensures works { Works D.honest D.history D.failures self.old self.new result }
+        ensures works { Works D.Disk self.old self.new result }
         ensures running { OnOk result (IsRunning self.new) }
-        ensures off { OnOk result ((facts_of D.failures self.new).stage ≡ Off) }
-        ensures less { OnOk result (work_of D.failures self.new < work_of D.failures self.old) }
-        ensures keeps { Keeps (facts_of D.failures self.old) (facts_of D.failures self.new) }
-        ensures free { OnOk result (LeavesRoom (facts_of D.failures self.old) (facts_of D.failures self.new)) }
+        ensures off { OnOk result ((facts_of D.Disk self.new).stage ≡ Off) }
+        ensures less { OnOk result (work_of D.Disk self.new < work_of D.Disk self.old) }
+        ensures keeps { Keeps (facts_of D.Disk self.old) (facts_of D.Disk self.new) }
+        ensures free { OnOk result (LeavesRoom (facts_of D.Disk self.old) (facts_of D.Disk self.new)) }
         ensures early { IfErr result EndsEarly }
     {
         runs_are_joined::<D>();
@@ -109,12 +109,12 @@ impl<D: Disk> Replica<D> {
     /// Brings the log nearer to a block more: its next step, or room for it.
     fn log_on(&mut self) -> Result<(), Refusal>
         requires running { IsRunning self.old }
-        requires off { (facts_of D.failures self.old).stage ≡ Off }
-        requires some { 0 < length (facts_of D.failures self.old).ahead }
-        ensures works { Works D.honest D.history D.failures self.old self.new result }
+        requires off { (facts_of D.Disk self.old).stage ≡ Off }
+        requires some { 0 < length (facts_of D.Disk self.old).ahead }
+        ensures works { Works D.Disk self.old self.new result }
         ensures running { OnOk result (IsRunning self.new) }
-        ensures off { OnOk result ((facts_of D.failures self.new).stage ≡ Off) }
-        ensures less { OnOk result (work_of D.failures self.new < work_of D.failures self.old) }
+        ensures off { OnOk result ((facts_of D.Disk self.new).stage ≡ Off) }
+        ensures less { OnOk result (work_of D.Disk self.new < work_of D.Disk self.old) }
         ensures early { IfErr result EndsEarly }
     {
         runs_are_joined::<D>();
@@ -138,11 +138,11 @@ impl<D: Disk> Replica<D> {
     /// `Corrupt` of the pages exactly where the base's page that the checkpoint flushes next is not of its form, of its
     /// number, and of a position not above the base's.
     pub fn settle(&mut self) -> Result<(), Refusal>
-        ensures quiet { OnOk result (is_quiet (facts_of D.failures self.new) ≡ true) }
+        ensures quiet { OnOk result (is_quiet (facts_of D.Disk self.new) ≡ true) }
         // It did some steps of its own, each the one that was due, and each of which was done but the last one, where it ended
         // early. So it begins no checkpoint but where the log's next cell is live, and syncs nothing but what awaits it; what a
         // refusal leaves is what the last step says; and a page is corrupt only where the bytes have none.
-        ensures works { (self.old.stopped || is_some self.old.engine.halted) ≡ false → Works D.honest D.history D.failures self.old self.new result }
+        ensures works { (self.old.stopped || is_some self.old.engine.halted) ≡ false → Works D.Disk self.old self.new result }
         ensures refused { IfErr result (λ e. (e ≡ Refusal.Stopped) ⊎ EndsEarly e) }
         // Where it is stopped, nothing changes.
         ensures stopped { (self.old.stopped || is_some self.old.engine.halted) ≡ true → (result ≡ Err Refusal.Stopped) × (self.new ≡ self.old) }

@@ -3,7 +3,7 @@
 ghost use Rattle.std.specs.Prelude.{◌≡◌, ◌++◌, ◌||◌, [], None, Ok, Err, false, true, length, is_some, IfErr, OnOk};
 ghost use Rattle.rep_types.specs.declared.refusal.Refusal.TheVariants.{OutOfMemory};
 ghost use Rattle.rep_record.specs.Fronts.{fitting};
-ghost use Rattle.rep_disk.specs.Calls.{IsCall};
+ghost use Rattle.rep_disk.specs.Devices.{Calls, SameHistory};
 ghost use Rattle.rep_log.specs.Standing.{due_of};
 ghost use Rattle.rep_log.specs.Moves.{fault_of, after_sync, started};
 ghost use Rattle.rep_steps.specs.declared.event.Event.TheVariants.{Log, Sync, Check, Flush, Read};
@@ -15,7 +15,7 @@ ghost use Rattle.rep_engine.specs.Accepting.{is_gathering};
 ghost use Rattle.rep_engine.specs.Checking.{checked};
 ghost use Rattle.rep_engine.specs.Holding.{wrote, synced, row};
 ghost use Rattle.rep_engine.specs.Writing.{written_in};
-ghost use Rattle.rep_replica.specs.Replicas.{facts_of};
+ghost use Rattle.rep_replica.specs.Replicas.{facts_of, OnlyItsEngineAsks};
 ghost use Rattle.rep_replica.specs.Refusing.{Gathers};
 ghost use Rattle.rep_replica.specs.Spelling.{ReadIsSpelled};
 ghost use Rattle.rep_replica.specs.Holding.{Holds, IsStep, IsJudgedBy, gave};
@@ -86,7 +86,7 @@ impl<D: Disk> Replica<D> {
     /// Why the item with this seqno is refused.
     fn delivery_refusal(&self, seqno: u64) -> Option<Refusal>
         requires { self.now.stopped ≡ false }
-        ensures { result ≡ delivery_refusal (facts_of D.failures self.now) seqno }
+        ensures { result ≡ delivery_refusal (facts_of D.Disk self.now) seqno }
     {
         if self.engine.uuid().is_nil() {
             return Some(Refusal::Undefined);
@@ -109,7 +109,7 @@ impl<D: Disk> Replica<D> {
     /// Takes the item with this seqno.
     fn deliver(&mut self, seqno: u64, item: Item) -> Result<Verdict, Refusal>
         requires running { (self.old.stopped ≡ false) × (self.old.engine.halted ≡ None) }
-        ensures step { IsStep D.honest D.history D.failures self.old (delivery seqno item) (gave result) self.new }
+        ensures step { IsStep D.Disk self.old (delivery seqno item) (gave result) self.new }
         ensures judged { IsJudgedBy self.old.certifier.current (delivery seqno item) (gave result) }
     {
         nodes_stay_nodes();
@@ -138,8 +138,8 @@ impl<D: Disk> Replica<D> {
     /// Lets the engine accept what it takes of the items that wait.
     fn gather(&mut self) -> Result<(), Refusal>
         requires running { (self.old.stopped ≡ false) × (self.old.engine.halted ≡ None) }
-        ensures facts { facts_of D.failures self.new ≡ facts_of D.failures self.old }
-        ensures holds { (n : Node) → Holds D.honest D.history D.failures n self.old → Holds D.honest D.history D.failures n self.new }
+        ensures facts { facts_of D.Disk self.new ≡ facts_of D.Disk self.old }
+        ensures holds { (n : Node) → Holds D.Disk n self.old → Holds D.Disk n self.new }
         ensures engine { self.new.engine ≡ record (self.old.engine) { kept = self.new.engine.kept; block = self.new.engine.block } }
         ensures gathered { OnOk result (self.old.engine.log.phase ≡ Phase.Resting → fitting [] self.new.engine.block ≡ fitting [] (self.old.engine.block ++ self.old.backlog)) }
         ensures took { OnOk result (Gathers self.old self.new) }
@@ -157,7 +157,7 @@ impl<D: Disk> Replica<D> {
     /// Writes what the log has to write next, of what was delivered.
     pub(crate) fn log(&mut self) -> Answer
         requires running { (self.old.stopped ≡ false) × (self.old.engine.halted ≡ None) }
-        ensures step { IsStep D.honest D.history D.failures self.old Log result self.new }
+        ensures step { IsStep D.Disk self.old Log result self.new }
         // The log has made the step that was due.
         ensures log { outcome_of result ≡ Ok tt → self.new.engine.log ≡ written_in (due_of self.old.engine.log) (length self.new.engine.block) self.old.engine.log }
     {
@@ -179,7 +179,7 @@ impl<D: Disk> Replica<D> {
     /// Makes stable what was written.
     pub(crate) fn sync(&mut self) -> Answer
         requires running { (self.old.stopped ≡ false) × (self.old.engine.halted ≡ None) }
-        ensures step { IsStep D.honest D.history D.failures self.old Sync result self.new }
+        ensures step { IsStep D.Disk self.old Sync result self.new }
         // The log is as a sync leaves it.
         ensures log { outcome_of result ≡ Ok tt → self.new.engine.log ≡ started self.new.engine.checkpoint.base.start (after_sync self.old.engine.log) }
     {
@@ -194,7 +194,7 @@ impl<D: Disk> Replica<D> {
     /// Takes the checkpoint's next step.
     pub(crate) fn check(&mut self) -> Answer
         requires running { (self.old.stopped ≡ false) × (self.old.engine.halted ≡ None) }
-        ensures { IsStep D.honest D.history D.failures self.old Check result self.new }
+        ensures { IsStep D.Disk self.old Check result self.new }
     {
         parts_step_as_the_whole();
         nodes_stay_nodes();
@@ -207,7 +207,7 @@ impl<D: Disk> Replica<D> {
     /// Flushes a page that the checkpoint has left.
     pub(crate) fn flush(&mut self, page: u64) -> Answer
         requires running { (self.old.stopped ≡ false) × (self.old.engine.halted ≡ None) }
-        ensures { IsStep D.honest D.history D.failures self.old (Flush page) result self.new }
+        ensures { IsStep D.Disk self.old (Flush page) result self.new }
     {
         parts_step_as_the_whole();
         nodes_stay_nodes();
@@ -222,13 +222,13 @@ impl<D: Disk> Replica<D> {
     /// and with `Corrupt` of the pages exactly where no item behind the base wrote the row up to there and the page
     /// is not of its form, of its number, and of a position not above the base's.
     pub fn read(&mut self, key: Key, s: u64) -> Result<Option<Value>, Refusal>
-        ensures step { IsStep D.honest D.history D.failures self.old (Read key s) (row result) self.new }
+        ensures step { IsStep D.Disk self.old (Read key s) (row result) self.new }
         // The device is asked at most, and nothing else changes but whether it is stopped.
-        ensures call { IsCall D.size D.failures D.honest self.old.engine.disk self.new.engine.disk (fault_of result) }
-        ensures rest { self.new ≡ record (self.old) { engine = record (self.old.engine) { disk = self.new.engine.disk; halted = self.new.engine.halted } } }
-        ensures same { D.honest self.old.engine.disk → D.history self.new.engine.disk ≡ D.history self.old.engine.disk }
+        ensures call { Calls D.Disk self.old.engine.disk self.new.engine.disk (fault_of result) }
+        ensures rest { OnlyItsEngineAsks self.old self.new }
+        ensures same { SameHistory D.Disk self.old.engine.disk self.new.engine.disk }
         // Whatever stands on an honest device: its bytes decide.
-        ensures spelled { ReadIsSpelled D.honest D.history key s self.old result }
+        ensures spelled { ReadIsSpelled D.Disk key s self.old result }
         // Where it is stopped, nothing changes.
         ensures stopped { (self.old.stopped || is_some self.old.engine.halted) ≡ true → (result ≡ Err Refusal.Stopped) × (self.new ≡ self.old) }
     {
@@ -269,7 +269,7 @@ impl<D: Disk> Replica<D> {
     /// the page; and after `DiskFault` it is stopped, so that every event is refused with `Stopped`. What was delivered
     /// still is then, and as much is durable; of what waits, `Log` had gathered what its block takes.
     pub fn step(&mut self, event: Event) -> Answer
-        ensures step { IsStep D.honest D.history D.failures self.old event result self.new }
+        ensures step { IsStep D.Disk self.old event result self.new }
         ensures judged { IsJudgedBy self.old.certifier.current event result }
         // Where it is stopped, nothing changes.
         ensures stopped { (self.old.stopped || is_some self.old.engine.halted) ≡ true → (result ≡ Refused Refusal.Stopped) × (self.new ≡ self.old) }

@@ -12,7 +12,7 @@ use Rattle.rep_types.specs.declared.refusal.Refusal.TheVariants.{Undefined, Exha
 use Rattle.rep_types.specs.Settings.{Setting}
 use Rattle.rep_types.specs.Windows.{Window}
 use Rattle.rep_types.specs.Order.{State, judge}
-use Rattle.rep_disk.specs.History.{History}
+use Rattle.rep_disk.specs.declared.disk.Disk.{Ghosts}
 use Rattle.rep_disk.specs.Moments.{LeavesOnly}
 use Rattle.rep_disk.specs.Leaving.{leaves_none, leaves_weaker, leaves_both, leaves_then}
 use Rattle.rep_layout.specs.Supers.{IsNil}
@@ -75,36 +75,36 @@ module _ (b : SuperBody) (y : State) (m : Node) (h : IsInstalled b y m) where
 -- ---- pages one after another
 
 -- Some of the pages came, and these are left.
-pub record Put {D : Type 0} (honest : D → Type 0) (history : D → History) (failures : D → ℕ) (pages rest : List (ℕ × Rows)) (first now : Bringing D) : Type 0 where
+pub record Put {D : Type 0} (g : Ghosts D) (pages rest : List (ℕ × Rows)) (first now : Bringing D) : Type 0 where
   pub uuid : now.coming.next.super.uuid ≡ first.coming.next.super.uuid
   pub position : now.coming.next.super.position ≡ first.coming.next.super.position
   pub params : now.engine.checkpoint.base.params ≡ first.engine.checkpoint.base.params
   pub shape : now.coming.next.super.params ≡ first.coming.next.super.params
-  pub holds : (n : Node) (y : State) → HoldsBoth honest history failures n y first
-      → (z : State) × HoldsBoth honest history failures n z now × (with_pages first.engine.checkpoint.base.params.rows rest z ≡ with_pages first.engine.checkpoint.base.params.rows pages y)
-  pub leaves : (n : Node) (y : State) → HoldsBoth honest history failures n y first → LeavesOnly (history first.engine.disk) (history now.engine.disk) (IsFrontAt Means n)
+  pub holds : (n : Node) (y : State) → HoldsBoth g n y first
+      → (z : State) × HoldsBoth g n z now × (with_pages first.engine.checkpoint.base.params.rows rest z ≡ with_pages first.engine.checkpoint.base.params.rows pages y)
+  pub leaves : (n : Node) (y : State) → HoldsBoth g n y first → LeavesOnly (g.history first.engine.disk) (g.history now.engine.disk) (IsFrontAt Means n)
 
-module _ {D : Type 0} (honest : D → Type 0) (history : D → History) (failures : D → ℕ) (pages : List (ℕ × Rows)) (first : Bringing D) where
-  pub put_none : (rest : List (ℕ × Rows)) → rest ≡ pages → Put honest history failures pages rest first first
+module _ {D : Type 0} (g : Ghosts D) (pages : List (ℕ × Rows)) (first : Bringing D) where
+  pub put_none : (rest : List (ℕ × Rows)) → rest ≡ pages → Put g pages rest first first
   put_none rest same = record {
     uuid = refl;
     position = refl;
     params = refl;
     shape = refl;
     holds = λ n y h. (y, h, ap (λ (ps : List (ℕ × Rows)). with_pages first.engine.checkpoint.base.params.rows ps y) same);
-    leaves = λ n y h. leaves_none (history first.engine.disk) (history first.engine.disk) refl;
+    leaves = λ n y h. leaves_none (g.history first.engine.disk) (g.history first.engine.disk) refl;
   }
 
-  module _ (rest : List (ℕ × Rows)) (now new : Bringing D) (page : ℕ) (rows : Rows) (put : Put honest history failures pages ((page, rows) ∷ rest) first now) (still : new ≡ record now { engine = record now.engine { disk = new.engine.disk; halted = new.engine.halted }; coming = new.coming })
-      (leaves : (n : Node) (y : State) → HoldsBoth honest history failures n y now → LeavesOnly (history now.engine.disk) (history new.engine.disk) (IsFrontAt Means n)) where
+  module _ (rest : List (ℕ × Rows)) (now new : Bringing D) (page : ℕ) (rows : Rows) (put : Put g pages ((page, rows) ∷ rest) first now) (still : new ≡ record now { engine = record now.engine { disk = new.engine.disk; halted = new.engine.halted }; coming = new.coming })
+      (leaves : (n : Node) (y : State) → HoldsBoth g n y now → LeavesOnly (g.history now.engine.disk) (g.history new.engine.disk) (IsFrontAt Means n)) where
     same_params : new.engine.checkpoint.base.params ≡ first.engine.checkpoint.base.params
     same_params = ap (λ (b : Bringing D). b.engine.checkpoint.base.params) still ∙ put.params
 
-    leaves_on : (n : Node) (y : State) → HoldsBoth honest history failures n y first → LeavesOnly (history first.engine.disk) (history new.engine.disk) (IsFrontAt Means n)
-    leaves_on n y h = leaves_both (history first.engine.disk) (history now.engine.disk) (history new.engine.disk) (put.leaves n y h) (leaves n (put.holds n y h).0 (put.holds n y h).1)
+    leaves_on : (n : Node) (y : State) → HoldsBoth g n y first → LeavesOnly (g.history first.engine.disk) (g.history new.engine.disk) (IsFrontAt Means n)
+    leaves_on n y h = leaves_both (g.history first.engine.disk) (g.history now.engine.disk) (g.history new.engine.disk) (put.leaves n y h) (leaves n (put.holds n y h).0 (put.holds n y h).1)
 
     -- one more came
-    pub put_more : new.coming ≡ placed now.engine.checkpoint.base page now.coming → ((n : Node) (y : State) → HoldsBoth honest history failures n y now → HoldsBoth honest history failures n (with_page now.engine.checkpoint.base.params.rows page rows y) new) → Put honest history failures pages rest first new
+    pub put_more : new.coming ≡ placed now.engine.checkpoint.base page now.coming → ((n : Node) (y : State) → HoldsBoth g n y now → HoldsBoth g n (with_page now.engine.checkpoint.base.params.rows page rows y) new) → Put g pages rest first new
     put_more done holds = record {
       uuid = ap (λ (i : Coming). i.next.super.uuid) done ∙ put.uuid;
       position = ap (λ (i : Coming). i.next.super.position) done ∙ put.position;
@@ -118,7 +118,7 @@ module _ {D : Type 0} (honest : D → Type 0) (history : D → History) (failure
     }
 
     -- or it was refused
-    pub put_refused : (r : Refusal) → new.coming ≡ now.coming → ((n : Node) (y : State) → HoldsBoth honest history failures n y now → new.engine.halted ≡ None → HoldsBoth honest history failures n y new) → PutsAll honest history failures pages first new (Err r)
+    pub put_refused : (r : Refusal) → new.coming ≡ now.coming → ((n : Node) (y : State) → HoldsBoth g n y now → new.engine.halted ≡ None → HoldsBoth g n y new) → PutsAll g pages first new (Err r)
     put_refused r same holds = record {
       uuid = ap (λ (i : Coming). i.next.super.uuid) same ∙ put.uuid;
       position = ap (λ (i : Coming). i.next.super.position) same ∙ put.position;
@@ -130,19 +130,19 @@ module _ {D : Type 0} (honest : D → Type 0) (history : D → History) (failure
     }
 
   -- all came
-  pub put_all : (now : Bringing D) → Put honest history failures pages [] first now → PutsAll honest history failures pages first now (Ok tt)
+  pub put_all : (now : Bringing D) → Put g pages [] first now → PutsAll g pages first now (Ok tt)
   put_all now put = record {
     uuid = put.uuid;
     position = put.position;
     params = put.params;
     shape = put.shape;
-    all = λ n y h. let was = put.holds n y h in subst (λ (z : State). HoldsBoth honest history failures n z now) was.2 was.1;
+    all = λ n y h. let was = put.holds n y h in subst (λ (z : State). HoldsBoth g n z now) was.2 was.1;
     some = λ n y h runs. let was = put.holds n y h in (was.0, was.1);
     leaves = put.leaves;
   }
 
   -- one can't come
-  pub put_some : (rest : List (ℕ × Rows)) (now : Bringing D) (r : Refusal) → Put honest history failures pages rest first now → PutsAll honest history failures pages first now (Err r)
+  pub put_some : (rest : List (ℕ × Rows)) (now : Bringing D) (r : Refusal) → Put g pages rest first now → PutsAll g pages first now (Err r)
   put_some rest now r put = record {
     uuid = put.uuid;
     position = put.position;
@@ -160,11 +160,11 @@ ok_of (Ok x) ok h = h
 ok_of (Err e) ok h = absurd cc
 
 -- a page that was refused: the device had failed before, or did
-pub refused_page : {D : Type 0} (honest : D → Type 0) (history : D → History) (failures : D → ℕ) (now new : Bringing D) (phase : Phase) (result : Result (Unit {0}) Refusal) (e : Refusal) → result ≡ Err e → (halted : Option Phase)
+pub refused_page : {D : Type 0} (g : Ghosts D) (now new : Bringing D) (phase : Phase) (result : Result (Unit {0}) Refusal) (e : Refusal) → result ≡ Err e → (halted : Option Phase)
     → IfSome halted (λ _. (result ≡ Err Stopped) × (new ≡ now)) → (halted ≡ None → (new.engine.halted ≡ halted_by phase result) × IfErr result (λ r. r ≡ DiskFault))
-    → (n : Node) (y : State) → HoldsBoth honest history failures n y now → new.engine.halted ≡ None → HoldsBoth honest history failures n y new
-refused_page honest history failures now new phase result e is (Some before) stopped runs n y h none = subst (HoldsBoth honest history failures n y) (sym stopped.1) h
-refused_page honest history failures now new phase result e is None stopped runs n y h none =
+    → (n : Node) (y : State) → HoldsBoth g n y now → new.engine.halted ≡ None → HoldsBoth g n y new
+refused_page g now new phase result e is (Some before) stopped runs n y h none = subst (HoldsBoth g n y) (sym stopped.1) h
+refused_page g now new phase result e is None stopped runs n y h none =
     let fault : e ≡ DiskFault = subst (λ (r : Result (Unit {0}) Refusal). IfErr r (λ f. f ≡ DiskFault)) is (runs refl).1 in
     let failed : Some phase ≡ None = sym (ap (halted_by {T = Unit {0}} phase) (is ∙ ap Err fault)) ∙ sym (runs refl).0 ∙ none in
     cc failed
@@ -187,24 +187,24 @@ on_ok (Ok x) a f = f a
 on_ok (Err e) a f = tt
 
 -- what was given up stands for the node as before, where the device has not failed
-pub given_back : {D : Type 0} (honest : D → Type 0) (history : D → History) (failures : D → ℕ) (n : Node) (k : Bringing D) (new : Replica D) → new ≡ given_up k → (halted : Option Phase) → k.engine.halted ≡ halted
-    → (k.engine.halted ≡ None → Holds honest history failures n new) → ((facts_of failures new).stopped ≡ true) ⊎ Holds honest history failures n new
-given_back honest history failures n k new same None is holds = inr (holds is)
-given_back {D} honest history failures n k new same (Some phase) is holds = inl (ap (λ (r : Replica D). (facts_of failures r).stopped) same ∙ ap is_some is)
+pub given_back : {D : Type 0} (g : Ghosts D) (n : Node) (k : Bringing D) (new : Replica D) → new ≡ given_up k → (halted : Option Phase) → k.engine.halted ≡ halted
+    → (k.engine.halted ≡ None → Holds g n new) → ((facts_of g new).stopped ≡ true) ⊎ Holds g n new
+given_back g n k new same None is holds = inr (holds is)
+given_back {D} g n k new same (Some phase) is holds = inl (ap (λ (r : Replica D). (facts_of g r).stopped) same ∙ ap is_some is)
 
 -- and behind an end that failed it is stopped
-pub end_failed : {D : Type 0} (failures : D → ℕ) (k : Bringing D) (new : Replica D) (result : Result (Unit {0}) Refusal) (halted : Option Phase) → k.engine.halted ≡ halted → IfSome halted (λ _. ◌≡◌ {A = Replica D × Result (Unit {0}) Refusal} (new, result) (given_up k, Err Stopped))
-    → (halted ≡ None → Lands failures k new result) → OnErr result ((facts_of failures new).stopped ≡ true)
-end_failed failures k new (Ok x) halted is stopped lands = tt
-end_failed failures k new (Err e) None is stopped lands = (lands refl).fault.1
-end_failed {D} failures k new (Err e) (Some phase) is stopped lands = ap (λ (x : Replica D × Result (Unit {0}) Refusal). (facts_of failures x.0).stopped) stopped ∙ ap is_some is
+pub end_failed : {D : Type 0} (g : Ghosts D) (k : Bringing D) (new : Replica D) (result : Result (Unit {0}) Refusal) (halted : Option Phase) → k.engine.halted ≡ halted → IfSome halted (λ _. ◌≡◌ {A = Replica D × Result (Unit {0}) Refusal} (new, result) (given_up k, Err Stopped))
+    → (halted ≡ None → Lands g k new result) → OnErr result ((facts_of g new).stopped ≡ true)
+end_failed g k new (Ok x) halted is stopped lands = tt
+end_failed g k new (Err e) None is stopped lands = (lands refl).fault.1
+end_failed {D} g k new (Err e) (Some phase) is stopped lands = ap (λ (x : Replica D × Result (Unit {0}) Refusal). (facts_of g x.0).stopped) stopped ∙ ap is_some is
 
 on_err : {A B : Type 0} (result : Result (Unit {0}) Refusal) → OnErr result A → (A → B) → OnErr result B
 on_err (Ok x) a f = tt
 on_err (Err e) a f = f a
 
-module _ {D : Type 0} (honest : D → Type 0) (history : D → History) (failures : D → ℕ) (n : Node) (uuid : List ℕ) (position : ℕ) (v : Window) (pages : List (ℕ × Rows)) (old : Replica D) (i k : Bringing D) (begun : (i.engine ≡ old.engine) × (i.coming ≡ coming old.engine.checkpoint.base uuid position old.engine.log.next v))
-    (holds : HoldsBoth honest history failures n (blank position v) i) where
+module _ {D : Type 0} (g : Ghosts D) (n : Node) (uuid : List ℕ) (position : ℕ) (v : Window) (pages : List (ℕ × Rows)) (old : Replica D) (i k : Bringing D) (begun : (i.engine ≡ old.engine) × (i.coming ≡ coming old.engine.checkpoint.base uuid position old.engine.log.next v))
+    (holds : HoldsBoth g n (blank position v) i) where
   abbrev y : State
   y = with_pages old.engine.checkpoint.base.params.rows pages (blank position v)
 
@@ -215,17 +215,17 @@ module _ {D : Type 0} (honest : D → Type 0) (history : D → History) (failure
   setting_is = ap (λ (c : Coming). c.next.super.params) begun.1 ∙ ap (λ (e : Engine D). e.checkpoint.base.params) (sym begun.0) ∙ sym (ap (λ (s : Standing). s.setting) holds.engine.facts)
 
   -- where all pages came and it took the place, or the device failed at that
-  pub brought : (new : Replica D) (result : Result (Unit {0}) Refusal) → PutsAll honest history failures pages i k (Ok tt) → ((z : State) → HoldsBoth honest history failures n z k → Installs honest history failures n z k new result) → OnErr result ((facts_of failures new).stopped ≡ true) → Brings honest history failures n uuid y old new result
+  pub brought : (new : Replica D) (result : Result (Unit {0}) Refusal) → PutsAll g pages i k (Ok tt) → ((z : State) → HoldsBoth g n z k → Installs g n z k new result) → OnErr result ((facts_of g new).stopped ≡ true) → Brings g n uuid y old new result
   brought new result put installs stopped =
-      let all = subst (λ (z : State). HoldsBoth honest history failures n z k) same_rows (put.all n (blank position v) holds) in
+      let all = subst (λ (z : State). HoldsBoth g n z k) same_rows (put.all n (blank position v) holds) in
       let came = installs y all in
       let b = k.coming.next.super in
       let uuid_is : b.uuid ≡ uuid = put.uuid ∙ ap (λ (c : Coming). c.next.super.uuid) begun.1 in
-      let before = subst (λ (e : Engine D). LeavesOnly (history e.disk) (history k.engine.disk) (IsFrontAt Means n)) begun.0 (put.leaves n (blank position v) holds) in
+      let before = subst (λ (e : Engine D). LeavesOnly (g.history e.disk) (g.history k.engine.disk) (IsFrontAt Means n)) begun.0 (put.leaves n (blank position v) holds) in
       record {
         done = on_ok result came.holds (λ h. (b, uuid_is, h.0, h.1, h.2));
         refused = on_err result stopped inl;
-        leaves = leaves_then (history old.engine.disk) (history k.engine.disk) (history new.engine.disk) (leaves_weaker (history old.engine.disk) (history k.engine.disk) (λ image f. inl f) before) came.leaves (λ image m. old_or_new b uuid_is (put.shape ∙ setting_is) image m);
+        leaves = leaves_then (g.history old.engine.disk) (g.history k.engine.disk) (g.history new.engine.disk) (leaves_weaker (g.history old.engine.disk) (g.history k.engine.disk) (λ image f. inl f) before) came.leaves (λ image m. old_or_new b uuid_is (put.shape ∙ setting_is) image m);
       }
     where
       old_or_new : (b : SuperBody) → b.uuid ≡ uuid → b.params ≡ n.facts.setting → (image : List ℕ) → MeansEither n b y image → MeansOldOrNew n uuid y image
@@ -234,19 +234,19 @@ module _ {D : Type 0} (honest : D → Type 0) (history : D → History) (failure
           inr (subst (λ (u : List ℕ). Means image (record { uuid = u; setting = n.facts.setting; base = y; tail = [] })) at (subst (λ (p : Setting). Means image (record { uuid = b.uuid; setting = p; base = y; tail = [] })) set m))
 
   -- where one didn't, and it was given up
-  pub dropped : (new : Replica D) (r : Refusal) → PutsAll honest history failures pages i k (Err r) → new ≡ given_up k → ((z : State) → HoldsBoth honest history failures n z k → Holds honest history failures n new) → Brings honest history failures n uuid y old new (Err r)
+  pub dropped : (new : Replica D) (r : Refusal) → PutsAll g pages i k (Err r) → new ≡ given_up k → ((z : State) → HoldsBoth g n z k → Holds g n new) → Brings g n uuid y old new (Err r)
   dropped new r put same alone =
-      let before = subst (λ (e : Engine D). LeavesOnly (history e.disk) (history k.engine.disk) (IsFrontAt Means n)) begun.0 (put.leaves n (blank position v) holds) in
+      let before = subst (λ (e : Engine D). LeavesOnly (g.history e.disk) (g.history k.engine.disk) (IsFrontAt Means n)) begun.0 (put.leaves n (blank position v) holds) in
       record {
         done = tt;
-        refused = given_back honest history failures n k new same k.engine.halted refl (λ runs. let left = put.some n (blank position v) holds runs in alone left.0 left.1);
-        leaves = subst (λ (e : Engine D). LeavesOnly (history old.engine.disk) (history e.disk) (MeansOldOrNew n uuid y)) (sym (ap (λ (r : Replica D). r.engine) same)) (leaves_weaker (history old.engine.disk) (history k.engine.disk) (λ image f. inl f) before);
+        refused = given_back g n k new same k.engine.halted refl (λ runs. let left = put.some n (blank position v) holds runs in alone left.0 left.1);
+        leaves = subst (λ (e : Engine D). LeavesOnly (g.history old.engine.disk) (g.history e.disk) (MeansOldOrNew n uuid y)) (sym (ap (λ (r : Replica D). r.engine) same)) (leaves_weaker (g.history old.engine.disk) (g.history k.engine.disk) (λ image f. inl f) before);
       }
 
 -- where it wasn't begun
-pub not_begun : {D : Type 0} (honest : D → Type 0) (history : D → History) (failures : D → ℕ) (n : Node) (uuid : List ℕ) (y : State) (old new : Replica D) (r : Refusal) → new ≡ old → Holds honest history failures n old → Brings honest history failures n uuid y old new (Err r)
-not_begun {D} honest history failures n uuid y old new r same holds = record {
+pub not_begun : {D : Type 0} (g : Ghosts D) (n : Node) (uuid : List ℕ) (y : State) (old new : Replica D) (r : Refusal) → new ≡ old → Holds g n old → Brings g n uuid y old new (Err r)
+not_begun {D} g n uuid y old new r same holds = record {
   done = tt;
-  refused = inr (subst (Holds honest history failures n) (sym same) holds);
-  leaves = subst (λ (x : Replica D). LeavesOnly (history old.engine.disk) (history x.engine.disk) (MeansOldOrNew n uuid y)) (sym same) (leaves_none (history old.engine.disk) (history old.engine.disk) refl);
+  refused = inr (subst (Holds g n) (sym same) holds);
+  leaves = subst (λ (x : Replica D). LeavesOnly (g.history old.engine.disk) (g.history x.engine.disk) (MeansOldOrNew n uuid y)) (sym same) (leaves_none (g.history old.engine.disk) (g.history old.engine.disk) refl);
 }

@@ -1,12 +1,12 @@
 -- Block after block.
 use Rattle.std.proofs.Common.{◌≡◌, ℕ, ◌+◌, ◌<◌, List, [], ◌∷◌, ◌++◌, append_assoc, length, map, take, Ok, Err, refl, sym, ap, ◌∙◌, arith}
-use Rattle.std.proofs.lemmas.List.{append-nil, length-append, length-drop, length-take-le, map-append, take-append-drop}
+use Rattle.std.proofs.lemmas.List.{append-nil, length-append, length-take-le, map-append, take-append-drop}
 use Rattle.std.specs.Prelude.{◌||◌, Bool, true, false, is_some}
 use Rattle.rep_types.specs.declared.judged.Judged.{Judged}
 use Rattle.rep_types.specs.declared.reply.Reply.{Reply}
 use Rattle.rep_types.specs.declared.refusal.Refusal.{Refusal}
 use Rattle.rep_types.specs.Replies.{reply_of}
-use Rattle.rep_disk.specs.History.{History}
+use Rattle.rep_disk.specs.declared.disk.Disk.{Ghosts}
 use Rattle.rep_steps.specs.declared.event.Event.{Event}
 use Rattle.rep_steps.specs.declared.answer.Answer.{Answer}
 use Rattle.rep_steps.specs.Runs.{replies_in, acknowledged}
@@ -17,14 +17,14 @@ use Rattle.rep_replica.specs.Committing.{coming, Commits}
 use Rattle.rep_replica_uses.specs.Committing.{Committed}
 
 -- as far as it came
-pub record Came {D : Type 0} (honest : D → Type 0) (history : D → History) (failures : D → ℕ) (old new : Replica D) : Type 0 where
+pub record Came {D : Type 0} (g : Ghosts D) (old new : Replica D) : Type 0 where
   pub done : List Judged
-  pub split : (facts_of failures old).ahead ≡ done ++ (facts_of failures new).ahead
-  pub durable : (facts_of failures new).durable ≡ (facts_of failures old).durable + length done
+  pub split : (facts_of g old).ahead ≡ done ++ (facts_of g new).ahead
+  pub durable : (facts_of g new).durable ≡ (facts_of g old).durable + length done
   pub events : List Event
   pub answers : List Answer
   pub own : AreOwn events
-  pub ran : Ran honest history failures old new events answers
+  pub ran : Ran g old new events answers
   pub told : acknowledged answers ≡ map reply_of done
   pub running : (new.stopped || is_some new.engine.halted) ≡ false
 
@@ -36,8 +36,8 @@ own_then : (events more : List Event) → AreOwn events → AreOwn more → AreO
 own_then [] more all rest = rest
 own_then (e ∷ events) more all rest = (all.0, own_then events more all.1 rest)
 
-module _ {D : Type 0} (honest : D → Type 0) (history : D → History) (failures : D → ℕ) (joined : RunsAreJoined honest history failures) where
-  pub came_none : (r : Replica D) → (r.stopped || is_some r.engine.halted) ≡ false → Came honest history failures r r
+module _ {D : Type 0} (g : Ghosts D) (joined : RunsAreJoined g) where
+  pub came_none : (r : Replica D) → (r.stopped || is_some r.engine.halted) ≡ false → Came g r r
   came_none r running = record {
     done = [];
     split = refl;
@@ -50,17 +50,17 @@ module _ {D : Type 0} (honest : D → Type 0) (history : D → History) (failure
     running = running;
   }
 
-  module _ (pages : ℕ) (old mid new : Replica D) (came : Came honest history failures old mid) where
-    pub came_on : (given : List Reply) → (new.stopped || is_some new.engine.halted) ≡ false → Commits honest history failures pages mid new (Ok given) → Came honest history failures old new
+  module _ (pages : ℕ) (old mid new : Replica D) (came : Came g old mid) where
+    pub came_on : (given : List Reply) → (new.stopped || is_some new.engine.halted) ≡ false → Commits g pages mid new (Ok given) → Came g old new
     came_on given running c =
-        let n = coming (facts_of failures mid) in
-        let more = take n (facts_of failures mid).ahead in
+        let n = coming (facts_of g mid) in
+        let more = take n (facts_of g mid).ahead in
         record {
           done = came.done ++ more;
           split =
-              came.split ∙ ap (λ (rest : List Judged). came.done ++ rest) (sym (take-append-drop n (facts_of failures mid).ahead) ∙ ap (λ (rest : List Judged). more ++ rest) (sym c.block.ahead))
-              ∙ sym (append_assoc came.done more (facts_of failures new).ahead);
-          durable = omega (arith, came.durable, c.block.durable, length-append came.done more, length-take-le n (facts_of failures mid).ahead c.block.within);
+              came.split ∙ ap (λ (rest : List Judged). came.done ++ rest) (sym (take-append-drop n (facts_of g mid).ahead) ∙ ap (λ (rest : List Judged). more ++ rest) (sym c.block.ahead))
+              ∙ sym (append_assoc came.done more (facts_of g new).ahead);
+          durable = omega (arith, came.durable, c.block.durable, length-append came.done more, length-take-le n (facts_of g mid).ahead c.block.within);
           events = came.events ++ c.works.events;
           answers = came.answers ++ c.works.answers;
           own = own_then came.events c.works.events came.own c.works.own;
@@ -71,10 +71,7 @@ module _ {D : Type 0} (honest : D → Type 0) (history : D → History) (failure
           running = running;
         }
 
-    pub fewer : (given : List Reply) → Commits honest history failures pages mid new (Ok given) → length (facts_of failures new).ahead < length (facts_of failures mid).ahead
-    fewer given c = omega (arith, ap length c.block.ahead, length-drop (coming (facts_of failures mid)) (facts_of failures mid).ahead, c.block.some, c.block.within)
-
-    pub came_ended : (r : Refusal) (count : ℕ) → (facts_of failures new).durable ≡ (facts_of failures old).durable + count → Commits honest history failures pages mid new (Err r) → Committed honest history failures old new count (Err r)
+    pub came_ended : (r : Refusal) (count : ℕ) → (facts_of g new).durable ≡ (facts_of g old).durable + count → Commits g pages mid new (Err r) → Committed g old new count (Err r)
     came_ended r count is c = record {
       done = came.done;
       split = came.split ∙ ap (λ (rest : List Judged). came.done ++ rest) (sym c.block.ahead);
@@ -87,20 +84,6 @@ module _ {D : Type 0} (honest : D → Type 0) (history : D → History) (failure
       told = told_then came.answers c.works.answers ∙ ap (λ (rs : List Reply). rs ++ acknowledged c.works.answers) came.told ∙ ap (λ (rs : List Reply). map reply_of came.done ++ rs) c.told ∙ append-nil (map reply_of came.done);
       all = tt;
     }
-
-  pub came_to : (old new : Replica D) (count : ℕ) → Came honest history failures old new → (facts_of failures new).durable ≡ (facts_of failures old).durable + count → (facts_of failures new).ahead ≡ [] → Committed honest history failures old new count (Ok tt)
-  came_to old new count came is all = record {
-    done = came.done;
-    split = came.split;
-    durable = came.durable;
-    counted = omega (arith, is, came.durable);
-    events = came.events;
-    answers = came.answers;
-    own = came.own;
-    ran = came.ran;
-    told = came.told;
-    all = all;
-  }
 
 pub not_first : (a b : Bool) → (a || b) ≡ false → a ≡ false
 not_first true b is = is

@@ -3,7 +3,7 @@ use Rattle.std.specs.Prelude.{◌≡◌, ℕ, ◌+◌, List, [], ◌++◌, lengt
 use Rattle.rep_types.specs.declared.judged.Judged.{Judged}
 use Rattle.rep_types.specs.declared.refusal.Refusal.{Refusal}
 use Rattle.rep_types.specs.Replies.{reply_of}
-use Rattle.rep_disk.specs.History.{History}
+use Rattle.rep_disk.specs.declared.disk.Disk.{Ghosts}
 use Rattle.rep_steps.specs.declared.event.Event.{Event}
 use Rattle.rep_steps.specs.declared.answer.Answer.{Answer}
 use Rattle.rep_steps.specs.Runs.{acknowledged}
@@ -13,14 +13,14 @@ use Rattle.rep_replica.specs.Settling.{AreOwn}
 
 -- These items became durable, by a run of the replica's own steps, which replied to each of them once, in their order; and the others still
 -- wait: none, where it succeeded.
-pub record Committed {D : Type 0} (honest : D → Type 0) (history : D → History) (failures : D → ℕ) (old new : Replica D) (count : ℕ) (result : Result (Unit {0}) Refusal) : Type 0 where
+pub record Committed {D : Type 0} (g : Ghosts D) (old new : Replica D) (count : ℕ) (result : Result (Unit {0}) Refusal) : Type 0 where
   pub done : List Judged
-  pub split : (facts_of failures old).ahead ≡ done ++ (facts_of failures new).ahead
-  pub durable : (facts_of failures new).durable ≡ (facts_of failures old).durable + length done
+  pub split : (facts_of g old).ahead ≡ done ++ (facts_of g new).ahead
+  pub durable : (facts_of g new).durable ≡ (facts_of g old).durable + length done
   pub counted : count ≡ length done
   pub events : List Event
   pub answers : List Answer
   pub own : AreOwn events
-  pub ran : Ran honest history failures old new events answers
+  pub ran : Ran g old new events answers
   pub told : acknowledged answers ≡ map reply_of done
-  pub all : OnOk result ((facts_of failures new).ahead ≡ [])
+  pub all : OnOk result ((facts_of g new).ahead ≡ [])

@@ -5,7 +5,8 @@ use Rattle.rep_types.specs.declared.refusal.Refusal.{Refusal}
 use Rattle.rep_types.specs.declared.refusal.Refusal.TheVariants.{OutOfMemory, DiskFault}
 use Rattle.rep_types.specs.Settings.{Setting}
 use Rattle.rep_types.specs.Order.{Order}
-use Rattle.rep_disk.specs.History.{History, seen}
+use Rattle.rep_disk.specs.declared.disk.Disk.{Ghosts}
+use Rattle.rep_disk.specs.History.{seen}
 use Rattle.rep_disk.specs.Calls.{Rises}
 use Rattle.rep_steps.specs.declared.event.Event.{Event}
 use Rattle.rep_steps.specs.declared.answer.Answer.{Answer}
@@ -35,38 +36,38 @@ left_by image [] = image
 left_by image (life ∷ lives) = left_by life.left lives
 
 -- A life on the disk, which is taken out at its end as it then reads.
-pub record LivesOnce {D : Type 0} (honest : D → Type 0) (history : D → History) (failures : D → ℕ) (old : D) (events : List Event) (answers : List Answer) (new : D) : Type 0 where
+pub record LivesOnce {D : Type 0} (g : Ghosts D) (old : D) (events : List Event) (answers : List Answer) (new : D) : Type 0 where
   pub life : Life D
   pub did : Did events answers life
-  pub is_life : IsLife honest history failures (seen (history old)) life
-  pub left : life.left ≡ seen (history new)
-  pub is_honest : honest new
+  pub is_life : IsLife g (seen (g.history old)) life
+  pub left : life.left ≡ seen (g.history new)
+  pub is_honest : g.honest new
 
 -- Lives on the disk that did these events and answered them so, and the disk is handed back as the last of them left it, so that further
 -- lives go on from there. Where it stood for a front of an order, and they were fed that order, they follow it.
-pub record LivesOn {D Z : Type 0} (honest : D → Type 0) (history : D → History) (failures : D → ℕ) (old : D) (events : List (Vec Event Z)) (answers : List (Vec Answer Z)) (new : D) : Type 0 where
+pub record LivesOn {D Z : Type 0} (g : Ghosts D) (old : D) (events : List (Vec Event Z)) (answers : List (Vec Answer Z)) (new : D) : Type 0 where
   pub lives : List (Life D)
   pub did : DidEach events answers lives
-  pub are_lives : Lives honest history failures (seen (history old)) lives
-  pub left : left_by (seen (history old)) lives ≡ seen (history new)
-  pub is_honest : honest new
-  pub follow : (uuid : List ℕ) (p : Setting) (O : Order) (d h : ℕ) → IsFrontOf Means uuid p (take h O) d (seen (history old)) → AreFed failures O lives → LivesFollow honest history failures uuid p O d h [] lives
+  pub are_lives : Lives g (seen (g.history old)) lives
+  pub left : left_by (seen (g.history old)) lives ≡ seen (g.history new)
+  pub is_honest : g.honest new
+  pub follow : (uuid : List ℕ) (p : Setting) (O : Order) (d h : ℕ) → IsFrontOf Means uuid p (take h O) d (seen (g.history old)) → AreFed g O lives → LivesFollow g uuid p O d h [] lives
 
 -- A refusal in whose life nothing was done: the disk reads as it did. Where it is of the bytes, the reason stands there; where it is a
 -- disk fault, the disk's count of failures rose.
-pub record IsUnlived {D : Type 0} (honest : D → Type 0) (history : D → History) (failures : D → ℕ) (old : D) (refusal : Refusal) (new : D) : Type 0 where
-  pub same : seen (history new) ≡ seen (history old)
-  pub is_honest : honest new
-  pub reason : RefusesToOpen ⊤ (seen (history old)) refusal
-  pub fault : refusal ≡ DiskFault → Rises (failures old) (failures new)
+pub record IsUnlived {D : Type 0} (g : Ghosts D) (old : D) (refusal : Refusal) (new : D) : Type 0 where
+  pub same : seen (g.history new) ≡ seen (g.history old)
+  pub is_honest : g.honest new
+  pub reason : RefusesToOpen ⊤ (seen (g.history old)) refusal
+  pub fault : refusal ≡ DiskFault → Rises (g.failures old) (g.failures new)
 
 -- Some of the lives were lived, from the first on, with answers that nobody is given; and on the disk as the last of them left it came the
 -- refusal, in whose life nothing was done. Where the disk stood for a front of an order, and these lives were fed it, the refusal is not
 -- of the bytes.
-pub record LivesUntil {D Z : Type 0} (honest : D → Type 0) (history : D → History) (failures : D → ℕ) (old : D) (events : List (Vec Event Z)) (refusal : Refusal) (new : D) : Type 0 where
+pub record LivesUntil {D Z : Type 0} (g : Ghosts D) (old : D) (events : List (Vec Event Z)) (refusal : Refusal) (new : D) : Type 0 where
   pub count : ℕ
   pub answers : List (Vec Answer Z)
   pub mid : D
-  pub lived : LivesOn honest history failures old (take count events) answers mid
-  pub refused : IsUnlived honest history failures mid refusal new
-  pub sound : (uuid : List ℕ) (p : Setting) (O : Order) (d h : ℕ) → IsFrontOf Means uuid p (take h O) d (seen (history old)) → AreFed failures O lived.lives → (refusal ≡ OutOfMemory) ⊎ (refusal ≡ DiskFault)
+  pub lived : LivesOn g old (take count events) answers mid
+  pub refused : IsUnlived g mid refusal new
+  pub sound : (uuid : List ℕ) (p : Setting) (O : Order) (d h : ℕ) → IsFrontOf Means uuid p (take h O) d (seen (g.history old)) → AreFed g O lived.lives → (refusal ≡ OutOfMemory) ⊎ (refusal ≡ DiskFault)

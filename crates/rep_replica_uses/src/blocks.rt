@@ -11,7 +11,7 @@ use rep_types::Refusal;
 /// Makes all that was delivered durable, a block after another, with at most so many pages of the checkpoint under way
 /// beside each. Gives how many items became durable and were replied to, also behind a refusal, which is that of `commit_block`.
 pub fn commit<D: Disk>(replica: &mut Replica<D>, pages: u64) -> (u64, Result<(), Refusal>)
-    ensures committed { (replica.old.stopped || is_some replica.old.engine.halted) ≡ false → Committed D.honest D.history D.failures replica.old replica.new result.0 result.1 }
+    ensures committed { (replica.old.stopped || is_some replica.old.engine.halted) ≡ false → Committed D.Disk replica.old replica.new result.0 result.1 }
     ensures refused { IfErr result.1 (λ e. (e ≡ Refusal.Stopped) ⊎ EndsEarly e) }
 {
     runs_are_joined::<D>();

@@ -22,7 +22,7 @@ pub type Pages = Vec<(u32, PageRows)>;
 
 /// Puts these pages one after another. Refuses with `Malformed` the first that cannot come, and else what the device refuses.
 fn put_all<D: Disk>(installation: &mut Installation<D>, pages: Pages) -> Result<(), Refusal>
-    ensures { PutsAll D.honest D.history D.failures pages.items installation.old installation.new result }
+    ensures { PutsAll D.Disk pages.items installation.old installation.new result }
 {
     for (page, rows) in pages {
         if !installation.takes(page, &rows) {
@@ -45,9 +45,9 @@ pub fn bring<D: Disk>(
     window: Window,
     pages: Pages,
 ) -> (Replica<D>, Result<(), Refusal>)
-    requires quiet { is_quiet (facts_of D.failures replica) ≡ true }
+    requires quiet { is_quiet (facts_of D.Disk replica) ≡ true }
     requires brings { CanBring replica.engine.checkpoint.base (durable_of replica.engine.log) uuid position window }
-    ensures { (n : Node) → Holds D.honest D.history D.failures n replica → Brings D.honest D.history D.failures n uuid (with_pages replica.engine.checkpoint.base.params.rows pages.items (blank position window)) replica result.0 result.1 }
+    ensures { (n : Node) → Holds D.Disk n replica → Brings D.Disk n uuid (with_pages replica.engine.checkpoint.base.params.rows pages.items (blank position window)) replica result.0 result.1 }
 {
     match replica.install(alloc, uuid, position, window) {
         Ok(mut installation) => match put_all(&mut installation, pages) {

@@ -26,8 +26,8 @@ pub fn live_once<D: Disk>(
     disk: D,
     events: &[Event],
 ) -> Result<(D, Vec<Answer>), (D, Refusal)>
-    ensures lived { D.honest disk → IfOk result (λ r. LivesOnce D.honest D.history D.failures disk events.now r.1.items r.0) }
-    ensures refused { D.honest disk → IfErr result (λ x. IsUnlived D.honest D.history D.failures disk x.1 x.0) }
+    ensures lived { D.honest disk → IfOk result (λ r. LivesOnce D.Disk disk events.now r.1.items r.0) }
+    ensures refused { D.honest disk → IfErr result (λ x. IsUnlived D.Disk disk x.1 x.0) }
 {
     runs_are_joined::<D>();
     stopped_replicas_hold::<D>();
@@ -55,8 +55,8 @@ pub fn live<D: Disk>(
     disk: D,
     lives: &[Vec<Event>],
 ) -> Result<(D, Vec<Vec<Answer>>), (D, Refusal)>
-    ensures lived { D.honest disk → IfOk result (λ r. LivesOn D.honest D.history D.failures disk lives.now r.1.items r.0) }
-    ensures refused { D.honest disk → IfErr result (λ x. LivesUntil D.honest D.history D.failures disk lives.now x.1 x.0) }
+    ensures lived { D.honest disk → IfOk result (λ r. LivesOn D.Disk disk lives.now r.1.items r.0) }
+    ensures refused { D.honest disk → IfErr result (λ x. LivesUntil D.Disk disk lives.now x.1 x.0) }
 {
     lives_follow_the_order::<D>();
     reasons_exclude_meanings();

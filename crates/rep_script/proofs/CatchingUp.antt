@@ -5,7 +5,7 @@ use Rattle.rep_types.specs.declared.refusal.Refusal.{Refusal}
 use Rattle.rep_types.specs.declared.refusal.Refusal.TheVariants.{DiskFault, Corrupt, StreamFault}
 use Rattle.rep_types.specs.declared.refusal.Part.{Part}
 use Rattle.rep_types.specs.declared.refusal.Part.TheVariants.{Pages}
-use Rattle.rep_disk.specs.History.{History}
+use Rattle.rep_disk.specs.declared.disk.Disk.{Ghosts}
 use Rattle.rep_steps.specs.Nodes.{Node}
 use Rattle.rep_replica.specs.Replicas.{Replica, facts_of}
 use Rattle.rep_replica.specs.Holding.{Holds}
@@ -21,11 +21,11 @@ some_last None P last found = tt
 some_last (Some bytes) P last found = (last, found)
 
 -- the transfer was taken to its end
-pub taken : {D : Type 0} (honest : D → Type 0) (history : D → History) (failures : D → ℕ) (old new : Replica D) (before left : Option (List ℕ)) (joined : Result ℕ Refusal) (last : ℕ) → joined ≡ Ok last → OnOk joined (is_quiet (facts_of failures new) ≡ true)
-    → IfSome before (λ bytes. IfOk joined (TookTransfer failures bytes left old new))
-    → ((n : Node) → Holds honest history failures n old → IfSome before (λ bytes. IfOk joined (Joined honest history failures n bytes left old new))) → Taken honest history failures old new before left
-taken honest history failures old new before left (Ok k) last is quiet took joins = record { quiet = quiet; took = some_last before (λ bytes p. TookTransfer failures bytes left old new p) k took; joined = λ n holds. some_last before (λ bytes p. Joined honest history failures n bytes left old new p) k (joins n holds) }
-taken honest history failures old new before left (Err e) last is quiet took joins = absurd (cc)
+pub taken : {D : Type 0} (g : Ghosts D) (old new : Replica D) (before left : Option (List ℕ)) (joined : Result ℕ Refusal) (last : ℕ) → joined ≡ Ok last → OnOk joined (is_quiet (facts_of g new) ≡ true)
+    → IfSome before (λ bytes. IfOk joined (TookTransfer g bytes left old new))
+    → ((n : Node) → Holds g n old → IfSome before (λ bytes. IfOk joined (Joined g n bytes left old new))) → Taken g old new before left
+taken g old new before left (Ok k) last is quiet took joins = record { quiet = quiet; took = some_last before (λ bytes p. TookTransfer g bytes left old new p) k took; joined = λ n holds. some_last before (λ bytes p. Joined g n bytes left old new p) k (joins n holds) }
+taken g old new before left (Err e) last is quiet took joins = absurd (cc)
 
 -- and whether its line could be written or not
 pub either_way : {T : Type 0} (result : Result T Refusal) (P : Type 0) → P → OnOk result P
@@ -40,9 +40,9 @@ stream_is_none is = cc
 stream_is_whole : (part : Part) → StreamFault ≢ Corrupt part
 stream_is_whole part is = cc
 
-module _ {D : Type 0} (honest : D → Type 0) (history : D → History) (failures : D → ℕ) (old new : Replica D) where
+module _ {D : Type 0} (g : Ghosts D) (old new : Replica D) where
   -- a line that fails tells nothing of it
-  pub line_tells : {T : Type 0} (result : Result T Refusal) → IfErr result (λ e. e ≡ StreamFault) → failures new.engine.disk ≡ failures old.engine.disk → TellsOfDevice honest history failures old new result
+  pub line_tells : {T : Type 0} (result : Result T Refusal) → IfErr result (λ e. e ≡ StreamFault) → g.failures new.engine.disk ≡ g.failures old.engine.disk → TellsOfDevice g old new result
   line_tells (Ok x) told same = same
   line_tells (Err e) told same = record {
     faults = record { fault = λ is. absurd (stream_is_none (sym told ∙ is)); no_fault = λ not. same };

@@ -4,7 +4,8 @@ use Rattle.std.specs.Prelude.{IfErr, OnOk, MatchResult}
 use Rattle.std.proofs.lemmas.Bool.{cases_lt}
 use Rattle.rep_types.specs.declared.refusal.Refusal.{Refusal}
 use Rattle.rep_types.specs.declared.refusal.Refusal.TheVariants.{DiskFault, StreamFault, TooSmall}
-use Rattle.rep_disk.specs.Calls.{IsCall}
+use Rattle.rep_disk.specs.declared.disk.Disk.{Ghosts}
+use Rattle.rep_disk.specs.Devices.{Calls}
 use Rattle.rep_log.specs.Moves.{fault_of}
 
 -- a format that was told with a stream fault has succeeded
@@ -18,10 +19,10 @@ untold (Err e) result P size need formatted small fault told is = elim (cases_lt
 ]
 
 -- the device's fault is told as it was: a line that fails is none
-pub told_call : {D : Type 0} (size failures : D → ℕ) (honest : D → Type 0) (old new : D) (outcome result : Result (Unit {0}) Refusal) → MatchResult outcome (λ _. IfErr result (λ refusal. refusal ≡ StreamFault)) (λ refusal. result ≡ Err refusal)
-    → IsCall size failures honest old new (fault_of outcome) → IsCall size failures honest old new (fault_of result)
-told_call size failures honest old new (Ok x) (Ok y) told call = record { same_size = call.same_size; stays_honest = call.stays_honest; was_honest = call.was_honest; cause = call.cause; no_cause = call.no_cause }
-told_call {D} size failures honest old new (Ok x) (Err e) told call =
-    subst (λ (refusal : Refusal). IsCall size failures honest old new (fault_of {T = Unit {0}} (Err refusal))) (sym told)
+pub told_call : {D : Type 0} (g : Ghosts D) (old new : D) (outcome result : Result (Unit {0}) Refusal) → MatchResult outcome (λ _. IfErr result (λ refusal. refusal ≡ StreamFault)) (λ refusal. result ≡ Err refusal)
+    → Calls g old new (fault_of outcome) → Calls g old new (fault_of result)
+told_call g old new (Ok x) (Ok y) told call = record { same_size = call.same_size; stays_honest = call.stays_honest; was_honest = call.was_honest; cause = call.cause; no_cause = call.no_cause }
+told_call {D} g old new (Ok x) (Err e) told call =
+    subst (λ (refusal : Refusal). Calls g old new (fault_of {T = Unit {0}} (Err refusal))) (sym told)
     (record { same_size = call.same_size; stays_honest = call.stays_honest; was_honest = call.was_honest; cause = call.cause; no_cause = call.no_cause })
-told_call size failures honest old new (Err e) result told call = subst (λ (r : Result (Unit {0}) Refusal). IsCall size failures honest old new (fault_of r)) (sym told) call
+told_call g old new (Err e) result told call = subst (λ (r : Result (Unit {0}) Refusal). Calls g old new (fault_of r)) (sym told) call

@@ -1,5 +1,5 @@
 -- What the notes of the streams are while a text is read and answered.
-use Rattle.std.proofs.Common.{◌≡◌, ℕ, ◌+◌, ◌<◌, Bool, true, false, List, [], length, Option, None, Some, Result, Ok, Err, refl, sym, ap, ◌∙◌, inl, inr, arith}
+use Rattle.std.proofs.Common.{◌≡◌, ℕ, ◌+◌, ◌<◌, Bool, true, false, List, [], length, Option, None, Some, Result, Ok, Err, refl, ap, ◌∙◌, inl, inr, arith}
 use Rattle.std.specs.Prelude.{◌≢◌, ◌⊎◌, IfErr}
 use Rattle.rep_types.specs.declared.refusal.Refusal.{Refusal}
 use Rattle.rep_types.specs.declared.refusal.Refusal.TheVariants.{StreamFault}
@@ -17,9 +17,6 @@ other_type e is = let same : e ≡ StreamFault = cc in ap Err same
 pub record ReadsOn (Long Long' : Type 0) (reader reader' : Bool) : Type 0 where
   pub fine : reader' ≡ reader
   pub long : Long' → Long
-
-pub nothing_read : (Long : Type 0) (reader : Bool) → ReadsOn Long Long reader reader
-nothing_read Long reader = record { fine = refl; long = λ l. l }
 
 pub line_read : {T : Type 0} (Long Long' Long'' : Type 0) (r r' r'' : Bool) (x : T) → ReadsOn Long Long' r r' → NotesText Long' r' r'' (Ok x) → (Long'' → Long') → ReadsOn Long Long'' r r''
 line_read Long Long' Long'' r r' r'' x h n back = record { fine = n.fine (λ e. absurd cc) ∙ h.fine; long = λ l. h.long (back l) }
@@ -146,14 +143,6 @@ text_noted Long Whole r r' w w' result whole n = record {
   writer_fine = n.writer_fine;
 }
 
--- it was read, and then answered
-pub read_and_told : {T U : Type 0} (Long : Type 0) (r r' w w' : Bool) (x : T) (result : Result U Refusal) → NotesText Long r r' (Ok x) → Notes w w' result → NotesBoth Long r r' w w' result
-read_and_told Long r r' w w' x result first n = record {
-  fault = λ is. inr (inl (n.fault is));
-  reader_fine = λ other. first.fine (λ is. absurd cc);
-  writer_fine = n.fine;
-}
-
 -- ---- a transfer
 
 -- a writer that has failed has noted it
@@ -176,14 +165,3 @@ taken_and_told Other r r' w w' x result first n = record {
   reader_fine = λ other. first.fine (λ is. absurd cc);
   writer_fine = n.fine;
 }
-
--- a text that was read from its start
-pub text_stops : {T U : Type 0} (u : Unread) (left : Option (List ℕ)) (r r' : Bool) (e : Refusal) → u ≡ record { pending = []; taken = 0; number = 0 } → NotesText {T = T} (IsTooLong u left) r r' (Err e) →
-    NotesText {T = U} (IsLongText left) r r' (Err e)
-text_stops {T} {U} u left r r' e new n = record {
-  fault = λ is. elim (n.fault (other_type {T = U} {U = T} e is)) [ inl failed ↦ inl failed | inr long ↦ inr (text_long u left new long) ];
-  fine = λ other. n.fine (λ is. other (other_type {T = T} {U = U} e is));
-}
-
-pub text_taken : {T U : Type 0} (Long Whole : Type 0) (r r' : Bool) (x : T) (y : U) → NotesText Long r r' (Ok x) → NotesText Whole r r' (Ok y)
-text_taken Long Whole r r' x y n = record { fault = λ is. absurd cc; fine = λ other. n.fine (λ is. absurd cc) }

@@ -3,7 +3,7 @@ use Rattle.std.proofs.Common.{◌≡◌, ℕ, ◌+◌, ◌<◌, ◌≤◌, ◌==
 use Rattle.std.proofs.lemmas.List.{take_all, take_at, take-take, length-take, length-take-le}
 use Rattle.std.specs.List.{slice_split, onto_first}
 use Rattle.std.specs.Io.KnownBytes.{Consumes, IsAtEnd}
-use Rattle.std.specs.Prelude.{ℤ, nat_le, if◌then◌else◌, IfSome}
+use Rattle.std.specs.Prelude.{nat_le, if◌then◌else◌, IfSome}
 use Rattle.std.proofs.lemmas.Bool.{lt-leb, leb-true, leb-false}
 use Rattle.rep_types.specs.declared.refusal.Refusal.{Refusal}
 use Rattle.rep_types.specs.declared.refusal.Refusal.TheVariants.{Malformed, OutOfMemory, StreamFault}
@@ -93,22 +93,6 @@ bad_within text x e =
     omega (arith, inside, size)
 
 -- ---- the fault of a text that is too long
-
--- what is missing is named by the size
-missing_by : (at size : ℕ) (uuid : Option (List ℕ)) (seqno : Option ℤ) (safe : Option Bool) → Err (Malformed at) ≡ whole size uuid seqno safe → at ≡ size
-missing_by at size (Some uuid) (Some seqno) safe e = absurd cc
-missing_by at size (Some uuid) None safe e = cc
-missing_by at size None seqno safe e = cc
-
-found_by : (at size : ℕ) (bad : Option ℕ) (uuid : Option (List ℕ)) (seqno : Option ℤ) (safe : Option Bool) → Err (Malformed at) ≡ unless_bad bad (whole size uuid seqno safe) →
-    at < size → Err (Malformed at) ≡ unless_bad bad (Err StreamFault)
-found_by at size None uuid seqno safe e less = absurd (let same : at ≡ size = missing_by at size uuid seqno safe e in omega (arith, same, less))
-found_by at size (Some x) uuid seqno safe e less = e
-
--- a fault within the text is its first line with a bad value
-pub bad_is_answered : (text : List ℕ) (at : ℕ) → Err (Malformed at) ≡ saved_in text → at < length text → Err (Malformed at) ≡ fault_of_long text
-bad_is_answered text at e less =
-    found_by at (length text) (first_bad (sayings_of text)) (last_uuid (sayings_of text)) (last_seqno (sayings_of text)) (last_safe (sayings_of text)) e less
 
 none_by : (text : List ℕ) (bad : Option ℕ) (r : Result SavedState Refusal) → bad ≡ first_bad (sayings_of text) → r ≡ unless_bad bad (Err StreamFault) →
     ((x : ℕ) → x < length text → Err (Malformed x) ≡ saved_in text → ⊥) → unless_bad bad (Err StreamFault) ≡ Err StreamFault

@@ -6,6 +6,7 @@ use Rattle.std.proofs.Math.Seq.{take-append_seam}
 use Rattle.rep_types.specs.declared.refusal.Refusal.{Refusal}
 use Rattle.rep_types.specs.declared.refusal.Refusal.TheVariants.{StreamFault, Malformed}
 use Rattle.rep_types.specs.Settings.{Setting}
+use Rattle.rep_disk.specs.declared.disk.Disk.{Ghosts}
 use Rattle.rep_disk.specs.declared.memory.Loss.{Loss}
 use Rattle.rep_disk.specs.History.{History, stable}
 use Rattle.rep_disk.specs.Memory.{Memory}
@@ -159,17 +160,17 @@ same_stop loss l is = cc
 
 -- ---- on a disk
 
-pub ran_on_disk : {D : Type 0} (honest : D → Type 0) (history : D → History) (failures : D → ℕ) (old new : Replica D) (c : Option (Result Command Refusal)) →
-    RunsDiskLine honest history failures old c (Ok tt) new → RanLine (Does honest history failures) old c new
-ran_on_disk honest history failures old new None ran = ran.1
-ran_on_disk honest history failures old new (Some (Ok c)) ran = ran.0
-ran_on_disk honest history failures old new (Some (Err e)) ran = ok_is_no_err tt e ran.0
+pub ran_on_disk : {D : Type 0} (g : Ghosts D) (old new : Replica D) (c : Option (Result Command Refusal)) →
+    RunsDiskLine g old c (Ok tt) new → RanLine (Does g) old c new
+ran_on_disk g old new None ran = ran.1
+ran_on_disk g old new (Some (Ok c)) ran = ran.0
+ran_on_disk g old new (Some (Err e)) ran = ok_is_no_err tt e ran.0
 
-pub failed_on_disk : {D : Type 0} (honest : D → Type 0) (history : D → History) (failures : D → ℕ) (old new : Replica D) (c : Option (Result Command Refusal)) (refusal : Refusal) →
-    RunsDiskLine honest history failures old c (Err refusal) new → LineFails (Does honest history failures) old c refusal new
-failed_on_disk honest history failures old new None refusal ran = err_is_no_ok refusal tt ran.0
-failed_on_disk honest history failures old new (Some (Ok c)) refusal ran = ran
-failed_on_disk honest history failures old new (Some (Err e)) refusal ran = (same_err {A = Unit {0}} refusal e ran.0, ran.1)
+pub failed_on_disk : {D : Type 0} (g : Ghosts D) (old new : Replica D) (c : Option (Result Command Refusal)) (refusal : Refusal) →
+    RunsDiskLine g old c (Err refusal) new → LineFails (Does g) old c refusal new
+failed_on_disk g old new None refusal ran = err_is_no_ok refusal tt ran.0
+failed_on_disk g old new (Some (Ok c)) refusal ran = ran
+failed_on_disk g old new (Some (Err e)) refusal ran = (same_err {A = Unit {0}} refusal e ran.0, ran.1)
 
 -- what a line of a script on a disk says, from what it says in any script
 abbrev pub on_disk : ℕ → Option (Result Command Refusal) → Option (Result Command Refusal)
@@ -181,14 +182,14 @@ content_on_disk number line =
     elim (is_blank line) as (λ blank. cond blank None (Some (disk_line number line)) ≡ on_disk number (cond blank None (Some (script_line number line)))) [ true ↦ refl | false ↦ refl ]
 
 -- a line that is refused, or whose answer could not be written, is so on a disk
-pub fails_on_disk : {D : Type 0} (honest : D → Type 0) (history : D → History) (failures : D → ℕ) (old new : Replica D) (number : ℕ) (c : Option (Result Command Refusal)) (result : Result (Unit {0}) Refusal) (refusal : Refusal) →
-    result ≡ Err refusal → RunsLine honest history failures old c (Err refusal) new → RunsDiskLine honest history failures old (on_disk number c) result new
-fails_on_disk honest history failures old new number None result refusal is ran = err_is_no_ok {A = Option Loss} refusal None ran.0
-fails_on_disk honest history failures old new number (Some (Ok (Step e))) result refusal is ran = (ran.0, subst (λ r. IfErr r (λ e. e ≡ StreamFault)) (sym is) ran.1)
-fails_on_disk honest history failures old new number (Some (Ok State)) result refusal is ran = (ran.0, subst (λ r. IfErr r (λ e. e ≡ StreamFault)) (sym is) ran.1)
-fails_on_disk honest history failures old new number (Some (Ok Limits)) result refusal is ran = (ran.0, subst (λ r. IfErr r (λ e. e ≡ StreamFault)) (sym is) ran.1)
-fails_on_disk honest history failures old new number (Some (Ok (Stop loss))) result refusal is ran = err_is_no_ok {A = Option Loss} refusal (Some loss) ran.0
-fails_on_disk honest history failures old new number (Some (Err e)) result refusal is ran = (is ∙ ap Err (same_err {A = Option Loss} refusal e ran.0), ran.1)
+pub fails_on_disk : {D : Type 0} (g : Ghosts D) (old new : Replica D) (number : ℕ) (c : Option (Result Command Refusal)) (result : Result (Unit {0}) Refusal) (refusal : Refusal) →
+    result ≡ Err refusal → RunsLine g old c (Err refusal) new → RunsDiskLine g old (on_disk number c) result new
+fails_on_disk g old new number None result refusal is ran = err_is_no_ok {A = Option Loss} refusal None ran.0
+fails_on_disk g old new number (Some (Ok (Step e))) result refusal is ran = (ran.0, subst (λ r. IfErr r (λ e. e ≡ StreamFault)) (sym is) ran.1)
+fails_on_disk g old new number (Some (Ok State)) result refusal is ran = (ran.0, subst (λ r. IfErr r (λ e. e ≡ StreamFault)) (sym is) ran.1)
+fails_on_disk g old new number (Some (Ok Limits)) result refusal is ran = (ran.0, subst (λ r. IfErr r (λ e. e ≡ StreamFault)) (sym is) ran.1)
+fails_on_disk g old new number (Some (Ok (Stop loss))) result refusal is ran = err_is_no_ok {A = Option Loss} refusal (Some loss) ran.0
+fails_on_disk g old new number (Some (Err e)) result refusal is ran = (is ∙ ap Err (same_err {A = Option Loss} refusal e ran.0), ran.1)
 
 -- the lines of a whole script on a disk
 pub text_run : {X : Type 0} (does : X → Command → X → Type 0) (left : Option (List ℕ)) (u : Unread) (old new : X) (result : Result (Unit {0}) Refusal) → u ≡ at_start →
@@ -214,25 +215,25 @@ unwritten_on_disk does (Some text) old new outcome result refusal is fault ends 
     subst (λ e. RunEnds does (script_on_disk text) old e new) (sym (is ∙ ap Err fault)) (some_done does (script_on_disk text) old new outcome ends)
 
 -- a script on a disk that was opened
-pub ends_on_disk : {D : Type 0} (size failures : D → ℕ) (honest : D → Type 0) (history : D → History) (left : Option (List ℕ)) (old new : D) (opening : Result (Replica D) (D × Refusal)) (first last : Replica D) (result : Result (Unit {0}) Refusal) →
-    IsOpening size failures honest history old opening → opening ≡ Ok first →
-    IfSome left (λ text. RunEnds (Does honest history failures) (script_on_disk text) first result last) → new ≡ last.engine.disk →
-    IfSome left (λ text. EndsOnDisk size failures honest history (script_on_disk text) old new result)
-ends_on_disk size failures honest history None old new opening first last result is_opening is ends back = tt
-ends_on_disk size failures honest history (Some text) old new opening first last result is_opening is ends back = record {
+pub ends_on_disk : {D : Type 0} (g : Ghosts D) (left : Option (List ℕ)) (old new : D) (opening : Result (Replica D) (D × Refusal)) (first last : Replica D) (result : Result (Unit {0}) Refusal) →
+    IsOpening g old opening → opening ≡ Ok first →
+    IfSome left (λ text. RunEnds (Does g) (script_on_disk text) first result last) → new ≡ last.engine.disk →
+    IfSome left (λ text. EndsOnDisk g (script_on_disk text) old new result)
+ends_on_disk g None old new opening first last result is_opening is ends back = tt
+ends_on_disk g (Some text) old new opening first last result is_opening is ends back = record {
   opening = opening;
   is_opening = is_opening;
-  ends = subst (λ o. EndsBehind honest history failures (script_on_disk text) o new result) (sym is) (last, ends, back);
+  ends = subst (λ o. EndsBehind g (script_on_disk text) o new result) (sym is) (last, ends, back);
 }
 
 -- a script on a disk that was refused
-pub refused_on_disk : {D : Type 0} (size failures : D → ℕ) (honest : D → Type 0) (history : D → History) (left : Option (List ℕ)) (old new : D) (opening : Result (Replica D) (D × Refusal)) (refusal : Refusal) →
-    IsOpening size failures honest history old opening → opening ≡ Err (new, refusal) → IfSome left (λ text. EndsOnDisk size failures honest history (script_on_disk text) old new (Err refusal))
-refused_on_disk size failures honest history None old new opening refusal is_opening is = tt
-refused_on_disk size failures honest history (Some text) old new opening refusal is_opening is = record {
+pub refused_on_disk : {D : Type 0} (g : Ghosts D) (left : Option (List ℕ)) (old new : D) (opening : Result (Replica D) (D × Refusal)) (refusal : Refusal) →
+    IsOpening g old opening → opening ≡ Err (new, refusal) → IfSome left (λ text. EndsOnDisk g (script_on_disk text) old new (Err refusal))
+refused_on_disk g None old new opening refusal is_opening is = tt
+refused_on_disk g (Some text) old new opening refusal is_opening is = record {
   opening = opening;
   is_opening = is_opening;
-  ends = subst (λ o. EndsBehind honest history failures (script_on_disk text) o new (Err refusal)) (sym is) (refl, refl);
+  ends = subst (λ o. EndsBehind g (script_on_disk text) o new (Err refusal)) (sym is) (refl, refl);
 }
 
 -- ---- in memory
@@ -256,74 +257,74 @@ DoesInMemory old c new = DoesOrStops size_of failures_of IsHonest history_of Cra
 abbrev pub EndsInMemory : Reading Command → Result (Unit {0}) Refusal → Type 0
 EndsInMemory r result = ScriptEnds size_of failures_of IsHonest history_of Crashes r result
 
-pub ran_in_memory : {D : Type 0} (size failures : D → ℕ) (honest : D → Type 0) (history : D → History) (crashes : Loss → D → D → Type 0) (old new : Replica D) (c : Option (Result Command Refusal)) →
-    RunsLine honest history failures old c (Ok None) new → RanLine (DoesOrStops size failures honest history crashes) old c new
-ran_in_memory size failures honest history crashes old new None ran = ran.1
-ran_in_memory size failures honest history crashes old new (Some (Ok (Step e))) ran = ran.0
-ran_in_memory size failures honest history crashes old new (Some (Ok State)) ran = ran.0
-ran_in_memory size failures honest history crashes old new (Some (Ok Limits)) ran = ran.0
-ran_in_memory size failures honest history crashes old new (Some (Ok (Stop loss))) ran = none_is_no_stop loss ran.0
-ran_in_memory size failures honest history crashes old new (Some (Err e)) ran = ok_is_no_err {A = Option Loss} None e ran.0
+pub ran_in_memory : {D : Type 0} (g : Ghosts D) (crashes : Loss → D → D → Type 0) (old new : Replica D) (c : Option (Result Command Refusal)) →
+    RunsLine g old c (Ok None) new → RanLine (DoesOrStops g crashes) old c new
+ran_in_memory g crashes old new None ran = ran.1
+ran_in_memory g crashes old new (Some (Ok (Step e))) ran = ran.0
+ran_in_memory g crashes old new (Some (Ok State)) ran = ran.0
+ran_in_memory g crashes old new (Some (Ok Limits)) ran = ran.0
+ran_in_memory g crashes old new (Some (Ok (Stop loss))) ran = none_is_no_stop loss ran.0
+ran_in_memory g crashes old new (Some (Err e)) ran = ok_is_no_err {A = Option Loss} None e ran.0
 
-pub failed_in_memory : {D : Type 0} (size failures : D → ℕ) (honest : D → Type 0) (history : D → History) (crashes : Loss → D → D → Type 0) (old new : Replica D) (c : Option (Result Command Refusal)) (refusal : Refusal) →
-    RunsLine honest history failures old c (Err refusal) new → LineFails (DoesOrStops size failures honest history crashes) old c refusal new
-failed_in_memory size failures honest history crashes old new None refusal ran = err_is_no_ok {A = Option Loss} refusal None ran.0
-failed_in_memory size failures honest history crashes old new (Some (Ok (Step e))) refusal ran = ran
-failed_in_memory size failures honest history crashes old new (Some (Ok State)) refusal ran = ran
-failed_in_memory size failures honest history crashes old new (Some (Ok Limits)) refusal ran = ran
-failed_in_memory size failures honest history crashes old new (Some (Ok (Stop loss))) refusal ran = err_is_no_ok {A = Option Loss} refusal (Some loss) ran.0
-failed_in_memory size failures honest history crashes old new (Some (Err e)) refusal ran = (same_err {A = Option Loss} refusal e ran.0, ran.1)
+pub failed_in_memory : {D : Type 0} (g : Ghosts D) (crashes : Loss → D → D → Type 0) (old new : Replica D) (c : Option (Result Command Refusal)) (refusal : Refusal) →
+    RunsLine g old c (Err refusal) new → LineFails (DoesOrStops g crashes) old c refusal new
+failed_in_memory g crashes old new None refusal ran = err_is_no_ok {A = Option Loss} refusal None ran.0
+failed_in_memory g crashes old new (Some (Ok (Step e))) refusal ran = ran
+failed_in_memory g crashes old new (Some (Ok State)) refusal ran = ran
+failed_in_memory g crashes old new (Some (Ok Limits)) refusal ran = ran
+failed_in_memory g crashes old new (Some (Ok (Stop loss))) refusal ran = err_is_no_ok {A = Option Loss} refusal (Some loss) ran.0
+failed_in_memory g crashes old new (Some (Err e)) refusal ran = (same_err {A = Option Loss} refusal e ran.0, ran.1)
 
-pub stop_is_asked : {D : Type 0} (honest : D → Type 0) (history : D → History) (failures : D → ℕ) (old new : Replica D) (c : Option (Result Command Refusal)) (loss : Loss) →
-    RunsLine honest history failures old c (Ok (Some loss)) new → (c ≡ Some (Ok (Stop loss))) × (new ≡ old)
-stop_is_asked honest history failures old new None loss ran = none_is_no_stop loss (sym ran.0)
-stop_is_asked honest history failures old new (Some (Ok (Step e))) loss ran = some_is_not_none loss ran.1
-stop_is_asked honest history failures old new (Some (Ok State)) loss ran = some_is_not_none loss ran.1
-stop_is_asked honest history failures old new (Some (Ok Limits)) loss ran = some_is_not_none loss ran.1
-stop_is_asked honest history failures old new (Some (Ok (Stop l))) loss ran = (same_stop loss l ran.0, ran.1)
-stop_is_asked honest history failures old new (Some (Err e)) loss ran = ok_is_no_err {A = Option Loss} (Some loss) e ran.0
+pub stop_is_asked : {D : Type 0} (g : Ghosts D) (old new : Replica D) (c : Option (Result Command Refusal)) (loss : Loss) →
+    RunsLine g old c (Ok (Some loss)) new → (c ≡ Some (Ok (Stop loss))) × (new ≡ old)
+stop_is_asked g old new None loss ran = none_is_no_stop loss (sym ran.0)
+stop_is_asked g old new (Some (Ok (Step e))) loss ran = some_is_not_none loss ran.1
+stop_is_asked g old new (Some (Ok State)) loss ran = some_is_not_none loss ran.1
+stop_is_asked g old new (Some (Ok Limits)) loss ran = some_is_not_none loss ran.1
+stop_is_asked g old new (Some (Ok (Stop l))) loss ran = (same_stop loss l ran.0, ran.1)
+stop_is_asked g old new (Some (Err e)) loss ran = ok_is_no_err {A = Option Loss} (Some loss) e ran.0
 
 -- a stop that is opened again
-pub stop_ran : {D : Type 0} (size failures : D → ℕ) (honest : D → Type 0) (history : D → History) (crashes : Loss → D → D → Type 0) (old mid new : Replica D) (c : Option (Result Command Refusal)) (loss : Loss) →
-    RunsLine honest history failures old c (Ok (Some loss)) mid → Stops size failures honest history crashes loss mid (Ok new) → RanLine (DoesOrStops size failures honest history crashes) old c new
-stop_ran size failures honest history crashes old mid new c loss ran stops =
-    let asked = stop_is_asked honest history failures old mid c loss ran in
-    subst (λ said. RanLine (DoesOrStops size failures honest history crashes) old said new) (sym asked.0)
-    (subst (λ r. Stops size failures honest history crashes loss r (Ok new)) asked.1 stops)
+pub stop_ran : {D : Type 0} (g : Ghosts D) (crashes : Loss → D → D → Type 0) (old mid new : Replica D) (c : Option (Result Command Refusal)) (loss : Loss) →
+    RunsLine g old c (Ok (Some loss)) mid → Stops g crashes loss mid (Ok new) → RanLine (DoesOrStops g crashes) old c new
+stop_ran g crashes old mid new c loss ran stops =
+    let asked = stop_is_asked g old mid c loss ran in
+    subst (λ said. RanLine (DoesOrStops g crashes) old said new) (sym asked.0)
+    (subst (λ r. Stops g crashes loss r (Ok new)) asked.1 stops)
 
 -- a script whose lines were run
-pub script_run_ends : {D : Type 0} (size failures : D → ℕ) (honest : D → Type 0) (history : D → History) (crashes : Loss → D → D → Type 0) (p : Setting) (asked : List Command × Option Refusal) (first last : Replica D) (result : Result (Unit {0}) Refusal) →
-    OnNewDisk size failures honest history p (Ok first) → RunEnds (DoesOrStops size failures honest history crashes) asked first result last →
-    ScriptEnds size failures honest history crashes (reading_of p asked) result
-script_run_ends size failures honest history crashes p asked first last (Ok _) on ends =
+pub script_run_ends : {D : Type 0} (g : Ghosts D) (crashes : Loss → D → D → Type 0) (p : Setting) (asked : List Command × Option Refusal) (first last : Replica D) (result : Result (Unit {0}) Refusal) →
+    OnNewDisk g p (Ok first) → RunEnds (DoesOrStops g crashes) asked first result last →
+    ScriptEnds g crashes (reading_of p asked) result
+script_run_ends g crashes p asked first last (Ok _) on ends =
     (ends.0, (last, record { first = first; on_new_disk = on; did = ends.1 }))
-script_run_ends size failures honest history crashes p asked first last (Err refusal) on ends =
-    elim refusal as (λ e. RunEnds (DoesOrStops size failures honest history crashes) asked first (Err e) last → ScriptEnds size failures honest history crashes (reading_of p asked) (Err e)) [
+script_run_ends g crashes p asked first last (Err refusal) on ends =
+    elim refusal as (λ e. RunEnds (DoesOrStops g crashes) asked first (Err e) last → ScriptEnds g crashes (reading_of p asked) (Err e)) [
       | StreamFault ↦ λ _. tt
       | _ ↦ λ ended. inl (record { fault = ended.0; done = inr (last, record { first = first; on_new_disk = on; did = ended.1 }) })
     ] ends
 
 -- a refusal that is no stream fault may come so
-any_refusal : {D : Type 0} (size failures : D → ℕ) (honest : D → Type 0) (history : D → History) (crashes : Loss → D → D → Type 0) (r : Reading Command) (refusal : Refusal) →
-    (EndsAtFault size failures honest history crashes r refusal ⊎ (OnNewDisk size failures honest history r.setting (Err refusal) ⊎ FailsAtStop size failures honest history crashes r.setting r.order refusal)) →
-    ScriptEnds size failures honest history crashes r (Err refusal)
-any_refusal size failures honest history crashes r refusal why =
-    elim refusal as (λ e. (EndsAtFault size failures honest history crashes r e ⊎ (OnNewDisk size failures honest history r.setting (Err e) ⊎ FailsAtStop size failures honest history crashes r.setting r.order e)) →
-    ScriptEnds size failures honest history crashes r (Err e)) [ StreamFault ↦ λ _. tt | _ ↦ λ w. w ] why
+any_refusal : {D : Type 0} (g : Ghosts D) (crashes : Loss → D → D → Type 0) (r : Reading Command) (refusal : Refusal) →
+    (EndsAtFault g crashes r refusal ⊎ (OnNewDisk g r.setting (Err refusal) ⊎ FailsAtStop g crashes r.setting r.order refusal)) →
+    ScriptEnds g crashes r (Err refusal)
+any_refusal g crashes r refusal why =
+    elim refusal as (λ e. (EndsAtFault g crashes r e ⊎ (OnNewDisk g r.setting (Err e) ⊎ FailsAtStop g crashes r.setting r.order e)) →
+    ScriptEnds g crashes r (Err e)) [ StreamFault ↦ λ _. tt | _ ↦ λ w. w ] why
 
 -- a stop that is not opened again
-pub script_stop_fails : {D : Type 0} (size failures : D → ℕ) (honest : D → Type 0) (history : D → History) (crashes : Loss → D → D → Type 0) (p : Setting) (start left left' : Option (List ℕ)) (first u new : Unread) (old r : Replica D) (loss : Loss) (refusal : Refusal) (line : List ℕ) →
-    OnNewDisk size failures honest history p (Ok old) → IfSome start (λ text. HasRun (DoesOrStops size failures honest history crashes) script_line text first old u (ahead u left) r) →
+pub script_stop_fails : {D : Type 0} (g : Ghosts D) (crashes : Loss → D → D → Type 0) (p : Setting) (start left left' : Option (List ℕ)) (first u new : Unread) (old r : Replica D) (loss : Loss) (refusal : Refusal) (line : List ℕ) →
+    OnNewDisk g p (Ok old) → IfSome start (λ text. HasRun (DoesOrStops g crashes) script_line text first old u (ahead u left) r) →
     IfSome left (λ known. NextLine (u.pending ++ known) u (Ok true) new left' line) → new.number ≡ u.number + 1 →
-    content script_line new.number line ≡ Some (Ok (Stop loss)) → Stops size failures honest history crashes loss r (Err refusal) →
-    IfSome start (λ text. ScriptEnds size failures honest history crashes (reading_of p (said_ahead script_line first text)) (Err refusal))
-script_stop_fails size failures honest history crashes p None left left' first u new old r loss refusal line on h next numbered asked stops = tt
-script_stop_fails size failures honest history crashes p (Some text) None left' first u new old r loss refusal line on h next numbered asked stops = absurd h.said
-script_stop_fails size failures honest history crashes p (Some text) (Some known) left' first u new old r loss refusal line on h next numbered asked stops =
+    content script_line new.number line ≡ Some (Ok (Stop loss)) → Stops g crashes loss r (Err refusal) →
+    IfSome start (λ text. ScriptEnds g crashes (reading_of p (said_ahead script_line first text)) (Err refusal))
+script_stop_fails g crashes p None left left' first u new old r loss refusal line on h next numbered asked stops = tt
+script_stop_fails g crashes p (Some text) None left' first u new old r loss refusal line on h next numbered asked stops = absurd h.said
+script_stop_fails g crashes p (Some text) (Some known) left' first u new old r loss refusal line on h next numbered asked stops =
     let later = said_ahead script_line new next.rest in
     let said : said_ahead script_line first text ≡ (h.done ++ Stop loss ∷ later.0, later.1) =
     h.said ∙ ap (done_then h.done) (said_step script_line (u.pending ++ known) u new left' line next numbered ∙ ap (λ c. with_line c later) asked) in
-    any_refusal size failures honest history crashes (reading_of p (said_ahead script_line first text)) refusal (inr (inr (record {
+    any_refusal g crashes (reading_of p (said_ahead script_line first text)) refusal (inr (inr (record {
       before = h.done;
       loss = loss;
       later = later.0;
@@ -334,12 +335,12 @@ script_stop_fails size failures honest history crashes p (Some text) (Some known
     })))
 
 -- a whole script whose params line is not read
-pub script_unread : {D : Type 0} (size failures : D → ℕ) (honest : D → Type 0) (history : D → History) (crashes : Loss → D → D → Type 0) (left left' : Option (List ℕ)) (u new : Unread) (refusal : Refusal) → u ≡ at_start →
+pub script_unread : {D : Type 0} (g : Ghosts D) (crashes : Loss → D → D → Type 0) (left left' : Option (List ℕ)) (u new : Unread) (refusal : Refusal) → u ≡ at_start →
     IfSome (ahead u left) (λ known. ReadsParams order_line known u (Err refusal) new left' × ReadsParams script_line known u (Err refusal) new left') →
-    IfSome left (λ text. ScriptEnds size failures honest history crashes (script text) (Err refusal))
-script_unread size failures honest history crashes None left' u new refusal is reads = tt
-script_unread size failures honest history crashes (Some text) left' u new refusal is reads =
-    elim refusal as (λ e. ReadsParams script_line text at_start (Err e) new left' → ScriptEnds size failures honest history crashes (script text) (Err e)) [
+    IfSome left (λ text. ScriptEnds g crashes (script text) (Err refusal))
+script_unread g crashes None left' u new refusal is reads = tt
+script_unread g crashes (Some text) left' u new refusal is reads =
+    elim refusal as (λ e. ReadsParams script_line text at_start (Err e) new left' → ScriptEnds g crashes (script text) (Err e)) [
       | StreamFault ↦ λ _. tt
       | _ ↦ λ e. rw e (inl (record { fault = refl; done = inl refl }))
     ] (subst (λ (v : Unread). ReadsParams script_line (v.pending ++ text) v (Err refusal) new left') is reads.1)
@@ -349,30 +350,30 @@ for_any None all = tt
 for_any (Some x) all = all x
 
 -- a script whose params line is read ends as the lines behind it do
-begun : {D : Type 0} (size failures : D → ℕ) (honest : D → Type 0) (history : D → History) (crashes : Loss → D → D → Type 0) (text : List ℕ) (first new : Unread) (rest : Option (List ℕ)) (p : Setting) (result : Result (Unit {0}) Refusal) →
+begun : {D : Type 0} (g : Ghosts D) (crashes : Loss → D → D → Type 0) (text : List ℕ) (first new : Unread) (rest : Option (List ℕ)) (p : Setting) (result : Result (Unit {0}) Refusal) →
     IsSomeAnd rest (λ rest. text_ahead script_line first text ≡ reading_of p (said_ahead script_line new rest)) →
-    IfSome rest (λ rest. ScriptEnds size failures honest history crashes (reading_of p (said_ahead script_line new rest)) result) → ScriptEnds size failures honest history crashes (text_ahead script_line first text) result
-begun size failures honest history crashes text first new None p result reads ends = absurd reads
-begun size failures honest history crashes text first new (Some rest) p result reads ends =
-    subst (λ r. ScriptEnds size failures honest history crashes r result) (sym reads) ends
+    IfSome rest (λ rest. ScriptEnds g crashes (reading_of p (said_ahead script_line new rest)) result) → ScriptEnds g crashes (text_ahead script_line first text) result
+begun g crashes text first new None p result reads ends = absurd reads
+begun g crashes text first new (Some rest) p result reads ends =
+    subst (λ r. ScriptEnds g crashes r result) (sym reads) ends
 
 -- a whole script whose params line is read, and for which there is no disk
-pub script_without_disk : {D : Type 0} (size failures : D → ℕ) (honest : D → Type 0) (history : D → History) (crashes : Loss → D → D → Type 0) (left left' : Option (List ℕ)) (u new : Unread) (p : Setting) (refusal : Refusal) → u ≡ at_start →
-    IfSome (ahead u left) (λ known. ReadsParams order_line known u (Ok p) new left' × ReadsParams script_line known u (Ok p) new left') → OnNewDisk size failures honest history p (Err refusal) →
-    IfSome left (λ text. ScriptEnds size failures honest history crashes (script text) (Err refusal))
-script_without_disk size failures honest history crashes None left' u new p refusal is reads on = tt
-script_without_disk size failures honest history crashes (Some text) left' u new p refusal is reads on =
-    begun size failures honest history crashes text at_start new (ahead new left') p (Err refusal) (subst (λ (v : Unread). ReadsParams script_line (v.pending ++ text) v (Ok p) new left') is reads.1)
-    (for_any (ahead new left') (λ rest. any_refusal size failures honest history crashes (reading_of p (said_ahead script_line new rest)) refusal (inr (inl on))))
+pub script_without_disk : {D : Type 0} (g : Ghosts D) (crashes : Loss → D → D → Type 0) (left left' : Option (List ℕ)) (u new : Unread) (p : Setting) (refusal : Refusal) → u ≡ at_start →
+    IfSome (ahead u left) (λ known. ReadsParams order_line known u (Ok p) new left' × ReadsParams script_line known u (Ok p) new left') → OnNewDisk g p (Err refusal) →
+    IfSome left (λ text. ScriptEnds g crashes (script text) (Err refusal))
+script_without_disk g crashes None left' u new p refusal is reads on = tt
+script_without_disk g crashes (Some text) left' u new p refusal is reads on =
+    begun g crashes text at_start new (ahead new left') p (Err refusal) (subst (λ (v : Unread). ReadsParams script_line (v.pending ++ text) v (Ok p) new left') is reads.1)
+    (for_any (ahead new left') (λ rest. any_refusal g crashes (reading_of p (said_ahead script_line new rest)) refusal (inr (inl on))))
 
 -- a whole script whose params line is read, and whose lines are run
-pub script_read : {D : Type 0} (size failures : D → ℕ) (honest : D → Type 0) (history : D → History) (crashes : Loss → D → D → Type 0) (left left' : Option (List ℕ)) (u new : Unread) (p : Setting) (result : Result (Unit {0}) Refusal) → u ≡ at_start →
+pub script_read : {D : Type 0} (g : Ghosts D) (crashes : Loss → D → D → Type 0) (left left' : Option (List ℕ)) (u new : Unread) (p : Setting) (result : Result (Unit {0}) Refusal) → u ≡ at_start →
     IfSome (ahead u left) (λ known. ReadsParams order_line known u (Ok p) new left' × ReadsParams script_line known u (Ok p) new left') →
-    IfSome (ahead new left') (λ rest. ScriptEnds size failures honest history crashes (reading_of p (said_ahead script_line new rest)) result) →
-    IfSome left (λ text. ScriptEnds size failures honest history crashes (script text) result)
-script_read size failures honest history crashes None left' u new p result is reads ends = tt
-script_read size failures honest history crashes (Some text) left' u new p result is reads ends =
-    begun size failures honest history crashes text at_start new (ahead new left') p result (subst (λ (v : Unread). ReadsParams script_line (v.pending ++ text) v (Ok p) new left') is reads.1) ends
+    IfSome (ahead new left') (λ rest. ScriptEnds g crashes (reading_of p (said_ahead script_line new rest)) result) →
+    IfSome left (λ text. ScriptEnds g crashes (script text) result)
+script_read g crashes None left' u new p result is reads ends = tt
+script_read g crashes (Some text) left' u new p result is reads ends =
+    begun g crashes text at_start new (ahead new left') p result (subst (λ (v : Unread). ReadsParams script_line (v.pending ++ text) v (Ok p) new left') is reads.1) ends
 
 -- ---- how a script in memory ends
 

@@ -4,7 +4,7 @@ use Rattle.std.specs.Fmt.{decimal}
 use Rattle.std.specs.Io.KnownBytes.{Appends, Keeps}
 use Rattle.rep_types.specs.declared.refusal.Refusal.{Refusal}
 use Rattle.rep_types.specs.Gtids.{Gtid, gtid_text}
-use Rattle.rep_disk.specs.History.{History}
+use Rattle.rep_disk.specs.declared.disk.Disk.{Ghosts}
 use Rattle.rep_steps.specs.Nodes.{Node}
 use Rattle.rep_replica.specs.Replicas.{Replica, facts_of}
 use Rattle.rep_replica.specs.Holding.{Holds}
@@ -37,7 +37,7 @@ Donates n have old new before after (Err e) = Donated n have old new before afte
 
 -- A transfer was taken to its end: on any device the replica is quiet, and the bytes, where they are known, began with a transfer that it can
 -- take; and one that stood for a node stands for what the transfer makes of it.
-pub record Taken {D : Type 0} (honest : D → Type 0) (history : D → History) (failures : D → ℕ) (old new : Replica D) (before left : Option (List ℕ)) : Type 0 where
-  pub quiet : is_quiet (facts_of failures new) ≡ true
-  pub took : IfSome before (λ bytes. (last : ℕ) × TookTransfer failures bytes left old new last)
-  pub joined : (n : Node) → Holds honest history failures n old → IfSome before (λ bytes. (last : ℕ) × Joined honest history failures n bytes left old new last)
+pub record Taken {D : Type 0} (g : Ghosts D) (old new : Replica D) (before left : Option (List ℕ)) : Type 0 where
+  pub quiet : is_quiet (facts_of g new) ≡ true
+  pub took : IfSome before (λ bytes. (last : ℕ) × TookTransfer g bytes left old new last)
+  pub joined : (n : Node) → Holds g n old → IfSome before (λ bytes. (last : ℕ) × Joined g n bytes left old new last)

@@ -4,10 +4,11 @@ use Rattle.rep_types.specs.declared.refusal.Refusal.{Refusal}
 use Rattle.rep_types.specs.declared.refusal.Refusal.TheVariants.{OutOfMemory, DiskFault, Malformed, NotFormatted, StreamFault}
 use Rattle.rep_types.specs.Settings.{Setting}
 use Rattle.rep_record.specs.Lines.{raw_lines}
+use Rattle.rep_disk.specs.declared.disk.Disk.{Ghosts}
 use Rattle.rep_disk.specs.declared.memory.Loss.{Loss}
-use Rattle.rep_disk.specs.History.{History, Begins, IsImage, seen}
+use Rattle.rep_disk.specs.History.{Begins, IsImage, seen}
 use Rattle.rep_disk.specs.Memory.{Memory, IsAfterLoss}
-use Rattle.rep_disk.specs.Calls.{IsCall}
+use Rattle.rep_disk.specs.Devices.{Calls}
 use Rattle.rep_layout.specs.Places.{need_of}
 use Rattle.rep_steps.specs.declared.answer.Answer.{Answer}
 use Rattle.rep_recover.specs.Looking.{fault_in}
@@ -47,27 +48,27 @@ script_on_disk text = said_by disk_line 1 0 (raw_lines text)
 
 -- What the opening of a disk gives: a replica that begins with what was found there; or the disk again, of which nothing was written,
 -- and why it was refused.
-pub record IsOpening {D : Type 0} (size failures : D → ℕ) (honest : D → Type 0) (history : D → History) (disk : D) (result : Result (Replica D) (D × Refusal)) : Type 0 where
-  pub call : MatchResult result (λ r. IsCall {T = Unit {0}} size failures honest disk r.engine.disk (Ok tt)) (λ x. IsCall size failures honest disk x.0 (fault_in x.1))
-  pub small : size disk < need_of without_log → result ≡ Err (disk, NotFormatted)
-  pub unwritten : honest disk → IfErr result (λ x. IsUnwritten (history disk) (history x.0))
-  pub begins : IfOk result (λ r. BeginsOn (size disk) r)
-  pub opens : honest disk → IfOk result (λ r. Opens honest history failures (history disk) r)
-  pub refused : IfErr result (λ x. RefusesToOpen (honest disk) (seen (history disk)) x.1)
+pub record IsOpening {D : Type 0} (g : Ghosts D) (disk : D) (result : Result (Replica D) (D × Refusal)) : Type 0 where
+  pub call : MatchResult result (λ r. Calls {T = Unit {0}} g disk r.engine.disk (Ok tt)) (λ x. Calls g disk x.0 (fault_in x.1))
+  pub small : g.size disk < need_of without_log → result ≡ Err (disk, NotFormatted)
+  pub unwritten : g.honest disk → IfErr result (λ x. IsUnwritten (g.history disk) (g.history x.0))
+  pub begins : IfOk result (λ r. BeginsOn (g.size disk) r)
+  pub opens : g.honest disk → IfOk result (λ r. Opens g (g.history disk) r)
+  pub refused : IfErr result (λ x. RefusesToOpen (g.honest disk) (seen (g.history disk)) x.1)
 
 -- The disk was opened, or refused so.
-abbrev pub Opened : {D : Type 0} → (D → ℕ) → (D → ℕ) → (D → Type 0) → (D → History) → D → Result (Replica D) Refusal → Type 0
-Opened size failures honest history disk (Ok r) = IsOpening size failures honest history disk (Ok r)
-Opened size failures honest history disk (Err refusal) = (left : _) × IsOpening size failures honest history disk (Err (left, refusal))
+abbrev pub Opened : {D : Type 0} → Ghosts D → D → Result (Replica D) Refusal → Type 0
+Opened g disk (Ok r) = IsOpening g disk (Ok r)
+Opened g disk (Err refusal) = (left : _) × IsOpening g disk (Err (left, refusal))
 
 -- the bytes of the state UUID of the disk in memory that a script runs on: 11111111-1111-4111-8111-111111111111
 abbrev pub script_uuid : List ℕ
 script_uuid = 0x11 ∷ 0x11 ∷ 0x11 ∷ 0x11 ∷ 0x11 ∷ 0x11 ∷ 0x41 ∷ 0x11 ∷ 0x81 ∷ 0x11 ∷ 0x11 ∷ 0x11 ∷ 0x11 ∷ 0x11 ∷ 0x11 ∷ 0x11 ∷ []
 
 -- A disk that was formatted with these parameters was opened, or refused so; or there was no memory for one, or it failed.
-abbrev pub OnNewDisk : {D : Type 0} → (D → ℕ) → (D → ℕ) → (D → Type 0) → (D → History) → Setting → Result (Replica D) Refusal → Type 0
-OnNewDisk {D} size failures honest history p result =
-    ((disk : D) × ImagesStandFor script_uuid p [] (history disk) × Opened size failures honest history disk result) ⊎ ((result ≡ Err OutOfMemory) ⊎ (result ≡ Err DiskFault))
+abbrev pub OnNewDisk : {D : Type 0} → Ghosts D → Setting → Result (Replica D) Refusal → Type 0
+OnNewDisk {D} g p result =
+    ((disk : D) × ImagesStandFor script_uuid p [] (g.history disk) × Opened g disk result) ⊎ ((result ≡ Err OutOfMemory) ⊎ (result ≡ Err DiskFault))
 
 -- What a crash makes of a disk in memory.
 pub record Crashes (loss : Loss) (old new : Memory) : Type 0 where
@@ -77,27 +78,27 @@ pub record Crashes (loss : Loss) (old new : Memory) : Type 0 where
   pub failures : new.failures ≡ old.failures
 
 -- A replica was stopped: its disk lost what the stop loses, and what was left was opened, or refused so.
-pub record Stops {D : Type 0} (size failures : D → ℕ) (honest : D → Type 0) (history : D → History) (crashes : Loss → D → D → Type 0) (loss : Loss) (old : Replica D) (result : Result (Replica D) Refusal) : Type 0 where
+pub record Stops {D : Type 0} (g : Ghosts D) (crashes : Loss → D → D → Type 0) (loss : Loss) (old : Replica D) (result : Result (Replica D) Refusal) : Type 0 where
   pub left : D
   pub lost : crashes loss old.engine.disk left
-  pub opened : Opened size failures honest history left result
+  pub opened : Opened g left result
 
 -- ---- what running a script does
 
 -- What a command does to a replica on a disk that does not crash at a line's word: it makes this step, whatever it answers, or its state or its
 -- window's limits are looked at.
-abbrev pub Does : {D : Type 0} → (D → Type 0) → (D → History) → (D → ℕ) → Replica D → Command → Replica D → Type 0
-Does honest history failures old (Step e) new = (a : Answer) × IsStep honest history failures old e a new
-Does honest history failures old State new = new ≡ old
-Does honest history failures old Limits new = new ≡ old
-Does honest history failures old (Stop loss) new = ⊥
+abbrev pub Does : {D : Type 0} → Ghosts D → Replica D → Command → Replica D → Type 0
+Does g old (Step e) new = (a : Answer) × IsStep g old e a new
+Does g old State new = new ≡ old
+Does g old Limits new = new ≡ old
+Does g old (Stop loss) new = ⊥
 
 -- The same on a disk that a stop makes crash, and opens again.
-abbrev pub DoesOrStops : {D : Type 0} → (D → ℕ) → (D → ℕ) → (D → Type 0) → (D → History) → (Loss → D → D → Type 0) → Replica D → Command → Replica D → Type 0
-DoesOrStops size failures honest history crashes old (Step e) new = (a : Answer) × IsStep honest history failures old e a new
-DoesOrStops size failures honest history crashes old State new = new ≡ old
-DoesOrStops size failures honest history crashes old Limits new = new ≡ old
-DoesOrStops size failures honest history crashes old (Stop loss) new = Stops size failures honest history crashes loss old (Ok new)
+abbrev pub DoesOrStops : {D : Type 0} → Ghosts D → (Loss → D → D → Type 0) → Replica D → Command → Replica D → Type 0
+DoesOrStops g crashes old (Step e) new = (a : Answer) × IsStep g old e a new
+DoesOrStops g crashes old State new = new ≡ old
+DoesOrStops g crashes old Limits new = new ≡ old
+DoesOrStops g crashes old (Stop loss) new = Stops g crashes loss old (Ok new)
 
 -- These commands were done one after another, each once.
 abbrev pub Did : {X : Type 0} → (X → Command → X → Type 0) → X → List Command → X → Type 0
@@ -113,64 +114,64 @@ RunEnds does asked old (Err StreamFault) new = (k : ℕ) × Did does old (take k
 RunEnds does asked old (Err refusal) new = (asked.1 ≡ Some refusal) × Did does old asked.0 new
 
 -- how a script ended that goes on behind this opening, and the disk that came back
-abbrev pub EndsBehind : {D : Type 0} → (D → Type 0) → (D → History) → (D → ℕ) → List Command × Option Refusal → Result (Replica D) (D × Refusal) → D → Result (Unit {0}) Refusal → Type 0
-EndsBehind honest history failures asked (Ok first) new result = (last : _) × RunEnds (Does honest history failures) asked first result last × (new ≡ last.engine.disk)
-EndsBehind honest history failures asked (Err x) new result = (new ≡ x.0) × (result ≡ Err x.1)
+abbrev pub EndsBehind : {D : Type 0} → Ghosts D → List Command × Option Refusal → Result (Replica D) (D × Refusal) → D → Result (Unit {0}) Refusal → Type 0
+EndsBehind g asked (Ok first) new result = (last : _) × RunEnds (Does g) asked first result last × (new ≡ last.engine.disk)
+EndsBehind g asked (Err x) new result = (new ≡ x.0) × (result ≡ Err x.1)
 
 -- How a script on a disk ended, and the disk that came back: that of the last replica; where the opening was refused, what came back there.
-pub record EndsOnDisk {D : Type 0} (size failures : D → ℕ) (honest : D → Type 0) (history : D → History) (asked : List Command × Option Refusal) (old new : D) (result : Result (Unit {0}) Refusal) : Type 0 where
+pub record EndsOnDisk {D : Type 0} (g : Ghosts D) (asked : List Command × Option Refusal) (old new : D) (result : Result (Unit {0}) Refusal) : Type 0 where
   pub opening : Result (Replica D) (D × Refusal)
-  pub is_opening : IsOpening size failures honest history old opening
-  pub ends : EndsBehind honest history failures asked opening new result
+  pub is_opening : IsOpening g old opening
+  pub ends : EndsBehind g asked opening new result
 
 -- These commands were done by a replica on a new disk with these parameters, and this one came of it.
-pub record Reaches {D : Type 0} (size failures : D → ℕ) (honest : D → Type 0) (history : D → History) (crashes : Loss → D → D → Type 0) (p : Setting) (commands : List Command) (last : Replica D) : Type 0 where
+pub record Reaches {D : Type 0} (g : Ghosts D) (crashes : Loss → D → D → Type 0) (p : Setting) (commands : List Command) (last : Replica D) : Type 0 where
   pub first : Replica D
-  pub on_new_disk : OnNewDisk size failures honest history p (Ok first)
-  pub did : Did (DoesOrStops size failures honest history crashes) first commands last
+  pub on_new_disk : OnNewDisk g p (Ok first)
+  pub did : Did (DoesOrStops g crashes) first commands last
 
 -- A stop of the script could not be opened again, and this is why; what stands before it was done.
-pub record FailsAtStop {D : Type 0} (size failures : D → ℕ) (honest : D → Type 0) (history : D → History) (crashes : Loss → D → D → Type 0) (p : Setting) (commands : List Command) (refusal : Refusal) : Type 0 where
+pub record FailsAtStop {D : Type 0} (g : Ghosts D) (crashes : Loss → D → D → Type 0) (p : Setting) (commands : List Command) (refusal : Refusal) : Type 0 where
   pub before : List Command
   pub loss : Loss
   pub later : List Command
   pub split : commands ≡ before ++ Stop loss ∷ later
   pub last : Replica D
-  pub reaches : Reaches size failures honest history crashes p before last
-  pub stops : Stops size failures honest history crashes loss last (Err refusal)
+  pub reaches : Reaches g crashes p before last
+  pub stops : Stops g crashes loss last (Err refusal)
 
 -- The text's first fault is this, and all that it asks for before was done; where it asks for nothing, there may be no disk.
-pub record EndsAtFault {D : Type 0} (size failures : D → ℕ) (honest : D → Type 0) (history : D → History) (crashes : Loss → D → D → Type 0) (r : Reading Command) (refusal : Refusal) : Type 0 where
+pub record EndsAtFault {D : Type 0} (g : Ghosts D) (crashes : Loss → D → D → Type 0) (r : Reading Command) (refusal : Refusal) : Type 0 where
   pub fault : r.fault ≡ Some refusal
-  pub done : (r.order ≡ []) ⊎ ((last : Replica D) × Reaches size failures honest history crashes r.setting r.order last)
+  pub done : (r.order ≡ []) ⊎ ((last : Replica D) × Reaches g crashes r.setting r.order last)
 
 -- How a script ended: at success the text has no fault, and all that it asks for was done; a stream fault may come at any moment, since it
 -- may be the reader's or the writer's; any other refusal is the text's first fault, and all before it was done, or a new disk or one behind a
 -- stop was refused so, and all before that was done.
-abbrev pub ScriptEnds : {D : Type 0} → (D → ℕ) → (D → ℕ) → (D → Type 0) → (D → History) → (Loss → D → D → Type 0) → Reading Command → Result (Unit {0}) Refusal → Type 0
-ScriptEnds size failures honest history crashes r (Ok _) = (r.fault ≡ None) × ((last : _) × Reaches size failures honest history crashes r.setting r.order last)
-ScriptEnds size failures honest history crashes r (Err StreamFault) = Unit {0}
-ScriptEnds size failures honest history crashes r (Err refusal) =
-    EndsAtFault size failures honest history crashes r refusal
-    ⊎ (OnNewDisk size failures honest history r.setting (Err refusal) ⊎ FailsAtStop size failures honest history crashes r.setting r.order refusal)
+abbrev pub ScriptEnds : {D : Type 0} → Ghosts D → (Loss → D → D → Type 0) → Reading Command → Result (Unit {0}) Refusal → Type 0
+ScriptEnds g crashes r (Ok _) = (r.fault ≡ None) × ((last : _) × Reaches g crashes r.setting r.order last)
+ScriptEnds g crashes r (Err StreamFault) = Unit {0}
+ScriptEnds g crashes r (Err refusal) =
+    EndsAtFault g crashes r refusal
+    ⊎ (OnNewDisk g r.setting (Err refusal) ⊎ FailsAtStop g crashes r.setting r.order refusal)
 
 -- ---- what running one line does
 
 -- What a command does to a replica, and what comes of it: a stop is handed back; after anything else the writer may have failed.
-abbrev pub RunsCommand : {D : Type 0} → (D → Type 0) → (D → History) → (D → ℕ) → Replica D → Command → Result (Option Loss) Refusal → Replica D → Type 0
-RunsCommand honest history failures old (Step e) result new = Does honest history failures old (Step e) new × MatchResult result (λ asked. asked ≡ None) (λ refusal. refusal ≡ StreamFault)
-RunsCommand honest history failures old State result new = Does honest history failures old State new × MatchResult result (λ asked. asked ≡ None) (λ refusal. refusal ≡ StreamFault)
-RunsCommand honest history failures old Limits result new = Does honest history failures old Limits new × MatchResult result (λ asked. asked ≡ None) (λ refusal. refusal ≡ StreamFault)
-RunsCommand honest history failures old (Stop loss) result new = (result ≡ Ok (Some loss)) × (new ≡ old)
+abbrev pub RunsCommand : {D : Type 0} → Ghosts D → Replica D → Command → Result (Option Loss) Refusal → Replica D → Type 0
+RunsCommand g old (Step e) result new = Does g old (Step e) new × MatchResult result (λ asked. asked ≡ None) (λ refusal. refusal ≡ StreamFault)
+RunsCommand g old State result new = Does g old State new × MatchResult result (λ asked. asked ≡ None) (λ refusal. refusal ≡ StreamFault)
+RunsCommand g old Limits result new = Does g old Limits new × MatchResult result (λ asked. asked ≡ None) (λ refusal. refusal ≡ StreamFault)
+RunsCommand g old (Stop loss) result new = (result ≡ Ok (Some loss)) × (new ≡ old)
 
 -- what a line does to a replica, by what it says, and what comes of it
-abbrev pub RunsLine : {D : Type 0} → (D → Type 0) → (D → History) → (D → ℕ) → Replica D → Option (Result Command Refusal) → Result (Option Loss) Refusal → Replica D → Type 0
-RunsLine honest history failures old None result new = (result ≡ Ok None) × (new ≡ old)
-RunsLine honest history failures old (Some (Err refusal)) result new = (result ≡ Err refusal) × (new ≡ old)
-RunsLine honest history failures old (Some (Ok c)) result new = RunsCommand honest history failures old c result new
+abbrev pub RunsLine : {D : Type 0} → Ghosts D → Replica D → Option (Result Command Refusal) → Result (Option Loss) Refusal → Replica D → Type 0
+RunsLine g old None result new = (result ≡ Ok None) × (new ≡ old)
+RunsLine g old (Some (Err refusal)) result new = (result ≡ Err refusal) × (new ≡ old)
+RunsLine g old (Some (Ok c)) result new = RunsCommand g old c result new
 
 -- the same of a line of a script on a disk
-abbrev pub RunsDiskLine : {D : Type 0} → (D → Type 0) → (D → History) → (D → ℕ) → Replica D → Option (Result Command Refusal) → Result (Unit {0}) Refusal → Replica D → Type 0
-RunsDiskLine honest history failures old None result new = (result ≡ Ok tt) × (new ≡ old)
-RunsDiskLine honest history failures old (Some (Err refusal)) result new = (result ≡ Err refusal) × (new ≡ old)
-RunsDiskLine honest history failures old (Some (Ok c)) result new = Does honest history failures old c new × IfErr result (λ refusal. refusal ≡ StreamFault)
+abbrev pub RunsDiskLine : {D : Type 0} → Ghosts D → Replica D → Option (Result Command Refusal) → Result (Unit {0}) Refusal → Replica D → Type 0
+RunsDiskLine g old None result new = (result ≡ Ok tt) × (new ≡ old)
+RunsDiskLine g old (Some (Err refusal)) result new = (result ≡ Err refusal) × (new ≡ old)
+RunsDiskLine g old (Some (Ok c)) result new = Does g old c new × IfErr result (λ refusal. refusal ≡ StreamFault)

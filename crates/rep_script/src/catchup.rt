@@ -72,14 +72,14 @@ pub fn join_text<D: Disk, R: Source, W: Sink>(
     ensures stopped { (replica.stopped || is_some replica.engine.halted) ≡ true → (result ≡ (replica, Err Refusal.Stopped)) × Keeps (W.contents writer.old) (W.contents writer.new) }
     ensures ends { (replica.stopped || is_some replica.engine.halted) ≡ false → EndsRunning result.1 result.0 }
     // The device's fault is told exactly where there was one, and of no honest device of a node that a page is not of its form.
-    ensures tells { TellsOfDevice D.honest D.history D.failures replica result.0 result.1 }
-    ensures lived { Lived D.honest D.history D.failures replica result.0 }
-    ensures joined { OnOk result.1 (Taken D.honest D.history D.failures replica result.0 (R.remaining transfer.old) (R.remaining transfer.new)) }
+    ensures tells { TellsOfDevice D.Disk replica result.0 result.1 }
+    ensures lived { Lived D.Disk replica result.0 }
+    ensures joined { OnOk result.1 (Taken D.Disk replica result.0 (R.remaining transfer.old) (R.remaining transfer.new)) }
     // A stream fault is one of the streams.
     ensures notes { NotesBoth ⊥ (R.failed transfer.old) (R.failed transfer.new) (W.failed writer.old) (W.failed writer.new) result.1 }
     // Where it is refused, the transfer was not taken to its end, and nothing of the line was written: a stream fault is the transfer's then; or it
     // was, and the line's writer failed.
-    ensures ended { (replica.stopped || is_some replica.engine.halted) ≡ false → IfErr result.1 (λ e. (Ended D.honest D.history D.failures replica result.0 (R.remaining transfer.old) e × Keeps (W.contents writer.old) (W.contents writer.new) × (e ≡ Refusal.StreamFault → R.failed transfer.new ≡ true) × (W.failed writer.new ≡ W.failed writer.old)) ⊎ ((e ≡ Refusal.StreamFault) × (W.failed writer.new ≡ true) × Taken D.honest D.history D.failures replica result.0 (R.remaining transfer.old) (R.remaining transfer.new))) }
+    ensures ended { (replica.stopped || is_some replica.engine.halted) ≡ false → IfErr result.1 (λ e. (Ended D.Disk replica result.0 (R.remaining transfer.old) e × Keeps (W.contents writer.old) (W.contents writer.new) × (e ≡ Refusal.StreamFault → R.failed transfer.new ≡ true) × (W.failed writer.new ≡ W.failed writer.old)) ⊎ ((e ≡ Refusal.StreamFault) × (W.failed writer.new ≡ true) × Taken D.Disk replica result.0 (R.remaining transfer.old) (R.remaining transfer.new))) }
 {
     let (replica, joined) = join(alloc, replica, transfer);
     if let Err(refusal) = joined {

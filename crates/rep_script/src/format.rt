@@ -1,7 +1,7 @@
 //! Formatting a disk.
 
 ghost use Rattle.std.specs.Prelude.{◌≡◌, ◌≢◌, ◌<◌, ◌≤◌, ◌⊎◌, [], Err, IfErr, OnOk, MatchResult};
-ghost use Rattle.rep_disk.specs.Calls.{IsCall};
+ghost use Rattle.rep_disk.specs.Devices.{Calls};
 ghost use Rattle.rep_layout.specs.Places.{layout_of, need_of};
 ghost use Rattle.rep_log.specs.Moves.{fault_of};
 ghost use Rattle.rep_streams.specs.Streams.{Notes};
@@ -56,7 +56,7 @@ pub fn format_text<D: Disk, W: Sink>(
     writer: &mut W,
 ) -> (D, Result<(), Refusal>)
     // The device's fault is told exactly where there was one.
-    ensures call { IsCall D.size D.failures D.honest disk result.0 (fault_of result.1) }
+    ensures call { Calls D.Disk disk result.0 (fault_of result.1) }
     ensures small { D.size disk < need_of (layout_of params.now) → (result.1 ≡ Err (Refusal.TooSmall (need_of (layout_of params.now)))) × (result.0 ≡ disk) }
     ensures refused { need_of (layout_of params.now) ≤ D.size disk → IfErr result.1 (λ refusal. (refusal ≡ Refusal.DiskFault) ⊎ (refusal ≡ Refusal.StreamFault)) }
     ensures told { Tells (formatted_line (first_gtid uuid)) (W.contents writer.old) (W.contents writer.new) result.1 }

@@ -39,7 +39,7 @@ fn write_limits_of<D: Disk, W: Sink>(
 ) -> Result<(), Refusal>
     ensures told { Tells (limits_line (window_of replica.now.certifier.current (durable_of replica.now.engine.log))) (W.contents writer.old) (W.contents writer.new) result }
     // Of a replica that stands for a node it is the node's.
-    ensures node { (n : Node) → Holds D.honest D.history D.failures n replica.now → Tells (limits_line (window_at n n.facts.durable)) (W.contents writer.old) (W.contents writer.new) result }
+    ensures node { (n : Node) → Holds D.Disk n replica.now → Tells (limits_line (window_at n n.facts.durable)) (W.contents writer.old) (W.contents writer.new) result }
     ensures notes { Notes (W.failed writer.old) (W.failed writer.new) result }
     ensures refused { IfErr result (λ refusal. (refusal ≡ Refusal.OutOfMemory) ⊎ (refusal ≡ Refusal.StreamFault)) }
 {

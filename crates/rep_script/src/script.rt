@@ -35,7 +35,7 @@ const SCRIPT_UUID: [u8; 16] = [
 ///
 /// Refuses the disk as `Replica::open` does.
 pub fn opened<D: Disk + Drop>(alloc: Global, disk: D) -> Result<Replica<D>, Refusal>
-    ensures opened { Opened D.size D.failures D.honest D.history disk result }
+    ensures opened { Opened D.Disk disk result }
     // No disk is refused as a stream that has failed.
     ensures own { IfErr result (λ refusal. refusal ≢ Refusal.StreamFault) }
 {
@@ -50,7 +50,7 @@ pub fn opened<D: Disk + Drop>(alloc: Global, disk: D) -> Result<Replica<D>, Refu
 ///
 /// Refuses with `OutOfMemory` where there is no room for the disk, and else as `format_disk` and `Replica::open` do.
 pub fn on_new_disk(alloc: Global, params: &Params) -> Result<Replica<MemDisk>, Refusal>
-    ensures opened { OnNewDisk ⟦<MemDisk as Disk>⟧.size ⟦<MemDisk as Disk>⟧.failures ⟦<MemDisk as Disk>⟧.honest ⟦<MemDisk as Disk>⟧.history params.now result }
+    ensures opened { OnNewDisk ⟦<MemDisk as Disk>⟧ params.now result }
     ensures own { IfErr result (λ refusal. refusal ≢ Refusal.StreamFault) }
 {
     let disk = MemDisk::new(alloc, need(params) as usize)?;
@@ -74,7 +74,7 @@ fn stopped_and_opened(
     replica: Replica<MemDisk>,
     loss: Loss,
 ) -> Result<Replica<MemDisk>, Refusal>
-    ensures stops { Stops ⟦<MemDisk as Disk>⟧.size ⟦<MemDisk as Disk>⟧.failures ⟦<MemDisk as Disk>⟧.honest ⟦<MemDisk as Disk>⟧.history Crashes loss replica result }
+    ensures stops { Stops ⟦<MemDisk as Disk>⟧ Crashes loss replica result }
     ensures own { IfErr result (λ refusal. refusal ≢ Refusal.StreamFault) }
 {
     let disk = stopped(replica, loss);
@@ -88,7 +88,7 @@ fn run_command<D: Disk, W: Sink>(
     command: Command,
     writer: &mut W,
 ) -> Result<Option<Loss>, Refusal>
-    ensures runs { RunsCommand D.honest D.history D.failures replica.old command result replica.new }
+    ensures runs { RunsCommand D.Disk replica.old command result replica.new }
     ensures notes { Notes (W.failed writer.old) (W.failed writer.new) result }
 {
     match command {
@@ -116,7 +116,7 @@ fn run_line<D: Disk, W: Sink>(
     number: u64,
     writer: &mut W,
 ) -> Result<Option<Loss>, Refusal>
-    ensures runs { RunsLine D.honest D.history D.failures replica.old (content script_line number line.now) result replica.new }
+    ensures runs { RunsLine D.Disk replica.old (content script_line number line.now) result replica.new }
     ensures notes { Notes (W.failed writer.old) (W.failed writer.new) result }
 {
     if is_blank(line) {
@@ -135,8 +135,8 @@ fn run_in_memory<R: Source, W: Sink>(
     writer: &mut W,
     waiting: &mut Waiting,
 ) -> Result<(), Refusal>
-    ensures ends { (p : Setting) → OnNewDisk ⟦<MemDisk as Disk>⟧.size ⟦<MemDisk as Disk>⟧.failures ⟦<MemDisk as Disk>⟧.honest ⟦<MemDisk as Disk>⟧.history p (Ok replica) → IfSome (ahead text.old (R.remaining reader.old)) (λ known.
-        ScriptEnds ⟦<MemDisk as Disk>⟧.size ⟦<MemDisk as Disk>⟧.failures ⟦<MemDisk as Disk>⟧.honest ⟦<MemDisk as Disk>⟧.history Crashes (reading_of p (said_ahead script_line text.old known)) result) }
+    ensures ends { (p : Setting) → OnNewDisk ⟦<MemDisk as Disk>⟧ p (Ok replica) → IfSome (ahead text.old (R.remaining reader.old)) (λ known.
+        ScriptEnds ⟦<MemDisk as Disk>⟧ Crashes (reading_of p (said_ahead script_line text.old known)) result) }
     // An answer without room may be the fault too: the writer is told of it where the last answers are sent.
     ensures notes { NotesBoth ((waiting.new.failed ≡ true) ⊎ IsTooLong text.old (R.remaining reader.old)) (R.failed reader.old) (R.failed reader.new) (W.failed writer.old) (W.failed writer.new) result }
 {
@@ -158,8 +158,8 @@ fn run_from<R: Source, W: Sink>(
     reader: &mut R,
     writer: &mut W,
 ) -> Result<(), Refusal>
-    ensures ends { (p : Setting) → OnNewDisk ⟦<MemDisk as Disk>⟧.size ⟦<MemDisk as Disk>⟧.failures ⟦<MemDisk as Disk>⟧.honest ⟦<MemDisk as Disk>⟧.history p (Ok replica) → IfSome (ahead text.old (R.remaining reader.old)) (λ known.
-        ScriptEnds ⟦<MemDisk as Disk>⟧.size ⟦<MemDisk as Disk>⟧.failures ⟦<MemDisk as Disk>⟧.honest ⟦<MemDisk as Disk>⟧.history Crashes (reading_of p (said_ahead script_line text.old known)) result) }
+    ensures ends { (p : Setting) → OnNewDisk ⟦<MemDisk as Disk>⟧ p (Ok replica) → IfSome (ahead text.old (R.remaining reader.old)) (λ known.
+        ScriptEnds ⟦<MemDisk as Disk>⟧ Crashes (reading_of p (said_ahead script_line text.old known)) result) }
     ensures notes { NotesBoth (IsTooLong text.old (R.remaining reader.old)) (R.failed reader.old) (R.failed reader.new) (W.failed writer.old) (W.failed writer.new) result }
 {
     let mut waiting = Waiting::new();
@@ -185,7 +185,7 @@ pub fn run_script<R: Source, W: Sink>(
     reader: &mut R,
     writer: &mut W,
 ) -> Result<(), Refusal>
-    ensures ends { IfSome (R.remaining reader.old) (λ text. ScriptEnds ⟦<MemDisk as Disk>⟧.size ⟦<MemDisk as Disk>⟧.failures ⟦<MemDisk as Disk>⟧.honest ⟦<MemDisk as Disk>⟧.history Crashes (script text) result) }
+    ensures ends { IfSome (R.remaining reader.old) (λ text. ScriptEnds ⟦<MemDisk as Disk>⟧ Crashes (script text) result) }
     // A stream fault is one of the streams, or the text is too long.
     ensures notes { NotesBoth (IsLongText (R.remaining reader.old)) (R.failed reader.old) (R.failed reader.new) (W.failed writer.old) (W.failed writer.new) result }
 {
@@ -206,7 +206,7 @@ fn run_disk_line<D: Disk, W: Sink>(
     number: u64,
     writer: &mut W,
 ) -> Result<(), Refusal>
-    ensures runs { RunsDiskLine D.honest D.history D.failures replica.old (content disk_line number line.now) result replica.new }
+    ensures runs { RunsDiskLine D.Disk replica.old (content disk_line number line.now) result replica.new }
     ensures notes { Notes (W.failed writer.old) (W.failed writer.new) result }
 {
     match run_line(alloc, replica, line, number, writer)? {
@@ -225,7 +225,7 @@ fn run_lines<D: Disk, R: Source, W: Sink>(
     waiting: &mut Waiting,
 ) -> Result<(), Refusal>
     ensures ends { IfSome (ahead text.old (R.remaining reader.old)) (λ known.
-        RunEnds (Does D.honest D.history D.failures) (said_ahead disk_line text.old known) replica.old result replica.new) }
+        RunEnds (Does D.Disk) (said_ahead disk_line text.old known) replica.old result replica.new) }
     // An answer without room may be the fault too: the writer is told of it where the last answers are sent.
     ensures notes { NotesBoth ((waiting.new.failed ≡ true) ⊎ IsTooLong text.old (R.remaining reader.old)) (R.failed reader.old) (R.failed reader.new) (W.failed writer.old) (W.failed writer.new) result }
 {
@@ -244,7 +244,7 @@ fn run_text<D: Disk, R: Source, W: Sink>(
     writer: &mut W,
 ) -> Result<(), Refusal>
     ensures ends { IfSome (R.remaining reader.old) (λ text.
-        RunEnds (Does D.honest D.history D.failures) (script_on_disk text) replica.old result replica.new) }
+        RunEnds (Does D.Disk) (script_on_disk text) replica.old result replica.new) }
     ensures notes { NotesBoth (IsLongText (R.remaining reader.old)) (R.failed reader.old) (R.failed reader.new) (W.failed writer.old) (W.failed writer.new) result }
 {
     let mut text = TextReader::new();
@@ -265,7 +265,7 @@ pub fn run_on_disk<D: Disk, R: Source, W: Sink>(
     writer: &mut W,
 ) -> (D, Result<(), Refusal>)
     ensures ends { IfSome (R.remaining reader.old) (λ text.
-        EndsOnDisk D.size D.failures D.honest D.history (script_on_disk text) disk result.0 result.1) }
+        EndsOnDisk D.Disk (script_on_disk text) disk result.0 result.1) }
     // A stream fault is one of the streams, or the text is too long.
     ensures notes { NotesBoth (IsLongText (R.remaining reader.old)) (R.failed reader.old) (R.failed reader.new) (W.failed writer.old) (W.failed writer.new) result.1 }
 {

@@ -2,7 +2,7 @@
 use Rattle.std.proofs.Common.{◌≡◌, Bool, true, false, Option, None, Some, Result, Ok, Err, refl, sym, ◌∙◌, ◌⊎◌, inl, inr}
 use Rattle.std.specs.Prelude.{◌||◌, ◌≢◌, is_some}
 use Rattle.rep_types.specs.declared.refusal.Refusal.{Refusal}
-use Rattle.rep_types.specs.declared.refusal.Refusal.TheVariants.{Stopped, OutOfMemory, DiskFault, Corrupt, StreamFault}
+use Rattle.rep_types.specs.declared.refusal.Refusal.TheVariants.{Stopped, StreamFault}
 use Rattle.rep_replica.specs.Settling.{EndsEarly}
 
 -- neither stopped from outside, nor its device failed

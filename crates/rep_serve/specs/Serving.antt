@@ -10,7 +10,7 @@ use Rattle.rep_types.specs.Texts.{verdict_text}
 use Rattle.rep_types.specs.Items.{source_of, trx_of}
 use Rattle.rep_record.specs.Lines.{raw_lines}
 use Rattle.rep_record.specs.Reading.{order_line}
-use Rattle.rep_disk.specs.History.{History}
+use Rattle.rep_disk.specs.declared.disk.Disk.{Ghosts}
 use Rattle.rep_replica.specs.Replicas.{Replica, facts_of}
 use Rattle.rep_replica.specs.Settling.{Works, is_quiet}
 use Rattle.rep_node.specs.declared.batch.Receipt.{Receipt}
@@ -58,14 +58,14 @@ TellsBatch lines state (Some end) before after (Err e) = ((e ≡ end) × Appends
 abbrev pub items_in : List ℕ → List Item × Option Refusal
 items_in text = said_by order_line 1 0 (raw_lines text)
 
-module _ {D : Type 0} (honest : D → Type 0) (history : D → History) (failures : D → ℕ) where
+module _ {D : Type 0} (g : Ghosts D) where
   -- All items of the text were handed in, and what came of them was written.
   pub record ServedText (text : Option (List ℕ)) (old new : Replica D) (before after : Option (List ℕ)) (result : Result (Unit {0}) Refusal) : Type 0 where
     pub items : List Item
     pub read : IfSome text (λ bytes. items_in bytes ≡ (items, None))
     pub receipts : List Receipt
     pub end : Option Refusal
-    pub served : IsServed honest history failures old items new receipts end
+    pub served : IsServed g old items new receipts end
     pub ended : IfSome end (EndedFor old (length items) new receipts)
     pub told : TellsBatch (receipt_lines items receipts) (line_of_state new) end before after result
 
@@ -77,5 +77,5 @@ module _ {D : Type 0} (honest : D → Type 0) (history : D → History) (failure
   -- The replica settled first: it ended early, and nothing was written; or it was quiet, and the items were served.
   abbrev pub Serves : Option (List ℕ) → Replica D → Replica D → Option (List ℕ) → Option (List ℕ) → Result (Unit {0}) Refusal → Type 0
   Serves text old new before after result =
-      ((e : Refusal) × (result ≡ Err e) × Works honest history failures old new (Err e) × Keeps before after)
-      ⊎ ((quiet : Replica D) × Works honest history failures old quiet (Ok tt) × (is_quiet (facts_of failures quiet) ≡ true) × ServesItems text quiet new before after result)
+      ((e : Refusal) × (result ≡ Err e) × Works g old new (Err e) × Keeps before after)
+      ⊎ ((quiet : Replica D) × Works g old quiet (Ok tt) × (is_quiet (facts_of g quiet) ≡ true) × ServesItems text quiet new before after result)

@@ -128,11 +128,11 @@ fn serve_settled<T: Threads + Wait + Sync, D: Disk + Send, R: Source, W: Sink>(
     reader: &mut R,
     writer: &mut W,
 ) -> (Replica<D>, Result<(), Refusal>)
-    requires quiet { is_quiet (facts_of D.failures replica) ≡ true }
+    requires quiet { is_quiet (facts_of D.Disk replica) ≡ true }
     requires running { IsRunning replica }
     requires defined { IsFalse (is_nil_bytes replica.engine.checkpoint.base.uuid) }
     requires workers { (0 < workers) × (workers ≤ 64) }
-    ensures serves { ServesItems D.honest D.history D.failures (R.remaining reader.old) replica result.0 (W.contents writer.old) (W.contents writer.new) result.1 }
+    ensures serves { ServesItems D.Disk (R.remaining reader.old) replica result.0 (W.contents writer.old) (W.contents writer.new) result.1 }
     ensures notes { NotesBoth (IsLongText (R.remaining reader.old)) (R.failed reader.old) (R.failed reader.new) (W.failed writer.old) (W.failed writer.new) result.1 }
 {
     let items = match read_items(alloc, reader) {
@@ -172,7 +172,7 @@ pub fn serve_text<T: Threads + Wait + Sync, D: Disk + Send, R: Source, W: Sink>(
     requires { (0 < workers) × (workers ≤ 64) }
     ensures undefined { IsTrue (is_nil_bytes replica.engine.checkpoint.base.uuid) → (result ≡ (replica, Err Refusal.Undefined)) × Keeps (W.contents writer.old) (W.contents writer.new) }
     ensures stopped { IsFalse (is_nil_bytes replica.engine.checkpoint.base.uuid) → (replica.stopped || is_some replica.engine.halted) ≡ true → (result ≡ (replica, Err Refusal.Stopped)) × Keeps (W.contents writer.old) (W.contents writer.new) }
-    ensures serves { IsFalse (is_nil_bytes replica.engine.checkpoint.base.uuid) → (replica.stopped || is_some replica.engine.halted) ≡ false → Serves D.honest D.history D.failures (R.remaining reader.old) replica result.0 (W.contents writer.old) (W.contents writer.new) result.1 }
+    ensures serves { IsFalse (is_nil_bytes replica.engine.checkpoint.base.uuid) → (replica.stopped || is_some replica.engine.halted) ≡ false → Serves D.Disk (R.remaining reader.old) replica result.0 (W.contents writer.old) (W.contents writer.new) result.1 }
     // A stream fault is one of the streams, or the text is too long.
     ensures notes { NotesBoth (IsLongText (R.remaining reader.old)) (R.failed reader.old) (R.failed reader.new) (W.failed writer.old) (W.failed writer.new) result.1 }
 {

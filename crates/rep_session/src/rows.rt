@@ -61,13 +61,13 @@ impl<D: Disk> Rows for Replica<D> {
     ghost use Rattle.rep_replica.specs.Reading.{HasRowsOf};
     ghost use Rattle.rep_session.specs.Rows.{tables_of, IsFront, Reads};
 
-    ghost tables = { tables_of D.failures };
+    ghost tables = { tables_of D.Disk };
 
-    ghost front_gives = { IsFront D.failures };
+    ghost front_gives = { IsFront D.Disk };
 
-    ghost read_gives = { Reads D.size D.failures D.honest D.history };
+    ghost read_gives = { Reads D.Disk };
 
-    ghost are_of = { HasRowsOf D.honest D.history D.failures };
+    ghost are_of = { HasRowsOf D.Disk };
 
     ghost forgets_nothing = { λ a b key s answer p L gives of. gives.forgets p L of };
 

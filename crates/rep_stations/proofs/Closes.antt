@@ -8,7 +8,7 @@ use Rattle.uuid.specs.Parts.{is_nil_bytes}
 use Rattle.rep_types.specs.declared.judged.Judged.{Judged}
 use Rattle.rep_types.specs.Settings.{Setting}
 use Rattle.rep_types.specs.Order.{State}
-use Rattle.rep_disk.specs.History.{History}
+use Rattle.rep_disk.specs.declared.disk.Disk.{Ghosts}
 use Rattle.rep_cert.specs.Holdings.{Holding, window_of}
 use Rattle.rep_steps.specs.Standings.{Standing, IsStanding}
 use Rattle.rep_steps.specs.Nodes.{Node, IsNode, advanced, reached}
@@ -53,8 +53,8 @@ judged_both p S (j ∷ js) ks h more = (h.0, h.1, judged_both p (advanced p S j)
 
 -- ---- the beginning
 
-module _ {D : Type 0} (honest : D → Type 0) (history : D → History) (failures : D → ℕ) (r : Replica D) (is : IsReplica (facts_of failures r.engine) r.backlog r.certifier.current r.stopped) (running : r.stopped ≡ false)
-    (quiet : is_quiet (replica_facts failures r) ≡ true) where
+module _ {D : Type 0} (g : Ghosts D) (r : Replica D) (is : IsReplica (facts_of g r.engine) r.backlog r.certifier.current r.stopped) (running : r.stopped ≡ false)
+    (quiet : is_quiet (replica_facts g r) ≡ true) where
   abbrev h : Holding
   h = r.certifier.current
 
@@ -84,14 +84,14 @@ module _ {D : Type 0} (honest : D → Type 0) (history : D → History) (failure
   goes_nowhere n = record { setting = refl; uuid = refl; past = 0; within = omega arith; base = refl; rest = sym (append-nil n.items) }
 
   -- the node that the replica stands for
-  starts : (n : Node) → Holds honest history failures n r → StartsAs honest history failures r.engine h n
+  starts : (n : Node) → Holds g n r → StartsAs g r.engine h n
   starts n holds =
       let ahead : n.facts.ahead ≡ [] = ap (λ (s : Standing). s.ahead) holds.facts ∙ none_ahead in
       let few : length n.items ≤ holds.taken = omega (arith, ap length holds.waiting, ap length none.1, length-drop holds.taken n.items) in
       let part : part_of r.engine.block holds.taken n ≡ n =
       ap (λ (js : List Judged). record n { facts = with_ahead js n.facts; items = take holds.taken n.items }) (none.0 ∙ sym ahead) ∙ ap (λ (js : List Judged). record n { items = js }) (take_all holds.taken n.items few) in
       record {
-        engine = subst (λ (m : Node). EngineHolds honest history failures m r.engine) part holds.engine;
+        engine = subst (λ (m : Node). EngineHolds g m r.engine) part holds.engine;
         setting = ap (λ (s : Standing). s.setting) holds.facts ∙ sym is.setting;
         judged = holds.judged;
         made = omega (arith, is.askable.made, at);
@@ -110,7 +110,7 @@ module _ {D : Type 0} (honest : D → Type 0) (history : D → History) (failure
         windows = holds.windows;
       }
 
-  pub begun : Begins honest history failures r
+  pub begun : Begins g r
   begun = record {
     judged = nothing_judged;
     windows = is.windows;
@@ -129,8 +129,8 @@ module _ {D : Type 0} (honest : D → Type 0) (history : D → History) (failure
 
 -- ---- the end
 
-module _ {D : Type 0} (honest : D → Type 0) (history : D → History) (failures : D → ℕ) (goes : JudgingGoesOn) (first : Engine D) (c : Holding) (items taken waits : List Judged) (r : Replica D)
-    (x : Ends honest history failures first c items taken waits r) where
+module _ {D : Type 0} (g : Ghosts D) (goes : JudgingGoesOn) (first : Engine D) (c : Holding) (items taken waits : List Judged) (r : Replica D)
+    (x : Ends g first c items taken waits r) where
   abbrev e : Engine D
   e = r.engine
 
@@ -140,12 +140,12 @@ module _ {D : Type 0} (honest : D → Type 0) (history : D → History) (failure
   none_waits : IsTrue (is_nil_bytes first.checkpoint.base.uuid) → waits ≡ []
   none_waits nil = (none_left taken waits (sym x.whole ∙ x.undefined nil)).1
 
-  comes : ComeNext (facts_of failures e) waits
+  comes : ComeNext (facts_of g e) waits
   comes =
-      waits_come honest history failures goes first c taken e x.engine waits (subst (Legal c) x.whole x.legal)
+      waits_come g goes first c taken e x.engine waits (subst (Legal c) x.whole x.legal)
       (omega (arith, x.limit, x.judged.delivered, ap length x.whole)) none_waits
 
-  pub ended : IsReplica (facts_of failures e) r.backlog r.certifier.current r.stopped
+  pub ended : IsReplica (facts_of g e) r.backlog r.certifier.current r.stopped
   ended = record {
     setting = x.judged.setting ∙ sym x.engine.setting;
     askable = record {
@@ -155,7 +155,7 @@ module _ {D : Type 0} (honest : D → Type 0) (history : D → History) (failure
     };
     windows = x.judged.windows x.windows;
     items = λ on. record {
-      come = subst (ComeNext (facts_of failures e)) (sym (x.waiting on)) comes;
+      come = subst (ComeNext (facts_of g e)) (sym (x.waiting on)) comes;
       placed = subst ArePlaced (sym (x.waiting on)) (placed_behind taken waits (subst ArePlaced x.whole x.placed));
       count = omega (arith, x.judged.delivered, x.engine.count, long, ap length (x.waiting on));
     };
@@ -163,7 +163,7 @@ module _ {D : Type 0} (honest : D → Type 0) (history : D → History) (failure
 
   -- ---- what the replica stands for
 
-  module _ (running : r.stopped ≡ false) (n : Node) (start : StartsAs honest history failures first c n) (m : Node) (on : GoesOn n taken m) (holds : EngineHolds honest history failures m e) where
+  module _ (running : r.stopped ≡ false) (n : Node) (start : StartsAs g first c n) (m : Node) (on : GoesOn n taken m) (holds : EngineHolds g m e) where
     abbrev k : Node
     k = with_items waits m
 
@@ -177,12 +177,12 @@ module _ {D : Type 0} (honest : D → Type 0) (history : D → History) (failure
     ahead = length-append m.facts.ahead waits ∙ ap (λ (js : List Judged). length js + length waits) block
 
     whole_on : GoesOn n items k
-    whole_on = subst (λ (js : List Judged). GoesOn n js k) (sym x.whole) (more_on honest history failures goes first c taken e x.engine waits n m on)
+    whole_on = subst (λ (js : List Judged). GoesOn n js k) (sym x.whole) (more_on g goes first c taken e x.engine waits n m on)
 
-    facts : k.facts ≡ replica_facts failures r
+    facts : k.facts ≡ replica_facts g r
     facts =
-        ap (λ (s : Standing). record s { ahead = s.ahead ++ waits }) holds.facts ∙ ap (λ (js : List Judged). record (facts_of failures e) { ahead = e.block ++ js }) (sym (x.waiting running))
-        ∙ ap (λ b. record (facts_of failures e) { ahead = e.block ++ r.backlog; stopped = b || is_some e.halted }) (sym running)
+        ap (λ (s : Standing). record s { ahead = s.ahead ++ waits }) holds.facts ∙ ap (λ (js : List Judged). record (facts_of g e) { ahead = e.block ++ js }) (sym (x.waiting running))
+        ∙ ap (λ b. record (facts_of g e) { ahead = e.block ++ r.backlog; stopped = b || is_some e.halted }) (sym running)
 
     standing : IsStanding k.facts
     standing =
@@ -217,7 +217,7 @@ module _ {D : Type 0} (honest : D → Type 0) (history : D → History) (failure
     judged =
         let p = n.facts.setting in
         let all = n.items ++ items in
-        let of_all : AreJudgedFrom p n.base all = judged_both p n.base n.items items start.judged (judged_there honest history failures goes first c n start items x.legal) in
+        let of_all : AreJudgedFrom p n.base all = judged_both p n.base n.items items start.judged (judged_there g goes first c n start items x.legal) in
         let behind : AreJudgedFrom p (reached p n.base (take whole_on.past all)) (drop whole_on.past all) = goes.judged_behind p n.base whole_on.past all of_all in
         subst (λ (q : Setting). AreJudgedFrom q k.base k.items) (sym whole_on.setting)
         (subst (λ (S : State). AreJudgedFrom p S k.items) (sym whole_on.base) (subst (AreJudgedFrom p (reached p n.base (take whole_on.past all))) (sym whole_on.rest) behind))
@@ -227,7 +227,7 @@ module _ {D : Type 0} (honest : D → Type 0) (history : D → History) (failure
         ap (λ (js : List Judged). record m { facts = with_ahead js m.facts }) block
         ∙ ap (λ (js : List Judged). record m { facts = with_ahead e.block m.facts; items = js }) (sym (take-append_seam m.items waits))
 
-    pub whole_holds : (t : Node) × GoesOn n items t × Holds honest history failures t r
+    pub whole_holds : (t : Node) × GoesOn n items t × Holds g t r
     whole_holds = (
       k,
       whole_on,
@@ -238,21 +238,21 @@ module _ {D : Type 0} (honest : D → Type 0) (history : D → History) (failure
         judged = judged;
         taken = length m.items;
         within = omega (arith, length-append m.items waits);
-        engine = subst (λ (t : Node). EngineHolds honest history failures t e) part holds;
+        engine = subst (λ (t : Node). EngineHolds g t e) part holds;
         waiting = x.waiting running ∙ sym (drop-append_seam m.items waits);
         windows = λ i above ask.
-            history_windows honest history failures goes first c n start items r.certifier.current x.judged i (omega (arith, above, base_at goes n items k whole_on)) ask
+            history_windows g goes first c n start items r.certifier.current x.judged i (omega (arith, above, base_at goes n items k whole_on)) ask
             ∙ sym (window_then goes n items k whole_on i above);
       },
     )
 
 -- ---- the law
 
-pub lie_between : {D : Type 0} (honest : D → Type 0) (history : D → History) (failures : D → ℕ) → JudgingGoesOn → HistoriesLieBetweenReplicas honest history failures
-lie_between honest history failures goes = record {
-  begins = λ r is running quiet. begun honest history failures r is running quiet;
-  ends = λ first c items taken waits r x. ended honest history failures goes first c items taken waits r x;
+pub lie_between : {D : Type 0} (g : Ghosts D) → JudgingGoesOn → HistoriesLieBetweenReplicas g
+lie_between g goes = record {
+  begins = λ r is running quiet. begun g r is running quiet;
+  ends = λ first c items taken waits r x. ended g goes first c items taken waits r x;
   stands = λ first c items taken waits r x running n start.
       let at = x.engine.stands n start in
-      whole_holds honest history failures goes first c items taken waits r x running n start at.0 at.1 at.2;
+      whole_holds g goes first c items taken waits r x running n start at.0 at.1 at.2;
 }

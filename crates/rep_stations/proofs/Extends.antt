@@ -7,7 +7,8 @@ use Rattle.rep_types.specs.Verdicts.{StateIsEnough}
 use Rattle.rep_types.specs.declared.key.Key.{Key}
 use Rattle.rep_types.specs.declared.refusal.Refusal.{Refusal}
 use Rattle.rep_types.specs.Order.{Order, State, items_of, state, history, joined, judged_next, read}
-use Rattle.rep_disk.specs.History.{History, IsImage}
+use Rattle.rep_disk.specs.declared.disk.Disk.{Ghosts}
+use Rattle.rep_disk.specs.History.{IsImage}
 use Rattle.rep_cert.specs.Holdings.{Holding}
 use Rattle.rep_steps.specs.declared.event.Event.TheVariants.{Read}
 use Rattle.rep_steps.specs.declared.answer.Answer.{Answer}
@@ -57,8 +58,8 @@ state_of enough p L (j ∷ js) h =
 
 -- ---- the node
 
-module _ {D : Type 0} (honest : D → Type 0) (disks : D → History) (failures : D → ℕ) (goes : JudgingGoesOn) (extends : JudgedItemsExtendTheOrder) (enough : StateIsEnough) (L : Order) (n m : Node) (first : Engine D) (c : Holding) (items : List Judged)
-    (is : IsOf L n) (start : StartsAs honest disks failures first c n) (legal : Legal c items) (on : GoesOn n items m) where
+module _ {D : Type 0} (g : Ghosts D) (goes : JudgingGoesOn) (extends : JudgedItemsExtendTheOrder) (enough : StateIsEnough) (L : Order) (n m : Node) (first : Engine D) (c : Holding) (items : List Judged)
+    (is : IsOf L n) (start : StartsAs g first c n) (legal : Legal c items) (on : GoesOn n items m) where
   abbrev p : Setting
   p = n.facts.setting
 
@@ -81,7 +82,7 @@ module _ {D : Type 0} (honest : D → Type 0) (disks : D → History) (failures 
   K = L ++ items_of items
 
   all_judged : AreJudgedFrom p (state p before) all
-  all_judged = subst (λ (S : State). AreJudgedFrom p S all) is.base (judged_both p n.base n.items items start.judged (judged_there honest disks failures goes first c n start items legal))
+  all_judged = subst (λ (S : State). AreJudgedFrom p S all) is.base (judged_both p n.base n.items items start.judged (judged_there g goes first c n start items legal))
 
   front_state : reached p (state p before) front ≡ state p M
   front_state = state_of enough p before front (goes.judged_front p (state p before) on.past all all_judged)
@@ -115,8 +116,8 @@ module _ {D : Type 0} (honest : D → Type 0) (disks : D → History) (failures 
 
 -- ---- the history
 
-module _ {D : Type 0} (honest : D → Type 0) (disks : D → History) (failures : D → ℕ) (goes : JudgingGoesOn) (extends : JudgedItemsExtendTheOrder) (enough : StateIsEnough) (L : Order) (n : Node) (first : Engine D) (c : Holding) (items : List Judged)
-    (is : IsOf L n) (start : StartsAs honest disks failures first c n) (legal : Legal c items) where
+module _ {D : Type 0} (g : Ghosts D) (goes : JudgingGoesOn) (extends : JudgedItemsExtendTheOrder) (enough : StateIsEnough) (L : Order) (n : Node) (first : Engine D) (c : Holding) (items : List Judged)
+    (is : IsOf L n) (start : StartsAs g first c n) (legal : Legal c items) where
   -- the state to which the node came is the order's
   came_is : reached n.facts.setting n.base n.items ≡ state n.facts.setting L
   came_is =
@@ -127,26 +128,26 @@ module _ {D : Type 0} (honest : D → Type 0) (disks : D → History) (failures 
   pub entries_are : items ≡ drop (length L) (history c.setting (L ++ items_of items))
   entries_are =
       let p = n.facts.setting in
-      let judged : AreJudgedFrom p (state p L) items = subst (λ (S : State). AreJudgedFrom p S items) came_is (judged_there honest disks failures goes first c n start items legal) in
+      let judged : AreJudgedFrom p (state p L) items = subst (λ (S : State). AreJudgedFrom p S items) came_is (judged_there g goes first c n start items legal) in
       (extends.extend n.facts.uuid p L items judged).tail_is ∙ ap (λ (q : Setting). drop (length L) (history q (L ++ items_of items))) start.setting
 
-  module _ (e : Engine D) (taken : HasTaken honest disks failures first c items e) where
+  module _ (e : Engine D) (taken : HasTaken g first c items e) where
     abbrev longer : Order
     longer = L ++ items_of items
 
-    abbrev there : (m : Node) × GoesOn n items m × Holds honest disks failures m e
+    abbrev there : (m : Node) × GoesOn n items m × Holds g m e
     there = taken.stands n start
 
     abbrev here : Node
     here = there.0
 
     of_longer : IsOf longer here
-    of_longer = of_order honest disks failures goes extends enough L n here first c items is start legal there.1
+    of_longer = of_order g goes extends enough L n here first c items is start legal there.1
 
     same_setting : here.facts.setting ≡ c.setting
     same_setting = there.1.setting ∙ start.setting
 
-    pub image_stands : NodesHoldTheOrder → FrontsStandForTheOrder → (image : List ℕ) → IsImage (disks e.disk) image → IsFrontOf Means e.checkpoint.base.uuid c.setting longer (durable_of e.log) image
+    pub image_stands : NodesHoldTheOrder → FrontsStandForTheOrder → (image : List ℕ) → IsImage (g.history e.disk) image → IsFrontOf Means e.checkpoint.base.uuid c.setting longer (durable_of e.log) image
     image_stands hold fronts image is_image =
         let node = there.2.node in
         let f = there.2.images image is_image in
@@ -163,17 +164,17 @@ module _ {D : Type 0} (honest : D → Type 0) (disks : D → History) (failures 
               (subst (λ (p : Setting). StandsFor here.facts.uuid p (take f.end longer) f.meaning) same_setting (fronts longer here f.end f.meaning node of_longer f.front));
         }
 
-    pub row_is : StepsFollowTheOrder → (new : Engine D) (key : Key) (s : ℕ) (a : Answer) → ((k : Node) → Holds honest disks failures k e → (t : Node) × Steps k (Read key s) a t × Holds honest disks failures t new)
+    pub row_is : StepsFollowTheOrder → (new : Engine D) (key : Key) (s : ℕ) (a : Answer) → ((k : Node) → Holds g k e → (t : Node) × Steps k (Read key s) a t × Holds g t new)
         → ((r : Refusal) × (a ≡ Refused r)) ⊎ (a ≡ Row (read c.setting longer key s))
     row_is follow new key s a steps =
         let to = steps here there.2 in
         elim ((follow longer here to.0 (Read key s) a there.2.node of_longer to.1).answered) [ inl refused ↦ inl refused | inr is_row ↦ inr (is_row ∙ ap (λ (p : Setting). Row (read p longer key s)) same_setting) ]
 
-pub histories_extend : {D : Type 0} (honest : D → Type 0) (disks : D → History) (failures : D → ℕ) → JudgingGoesOn → JudgedItemsExtendTheOrder → StateIsEnough → NodesHoldTheOrder → FrontsStandForTheOrder → StepsFollowTheOrder
-    → HistoriesExtendTheOrder honest disks failures
-histories_extend honest disks failures goes extends enough hold fronts follow = record {
-  entries = λ L n first c items is start legal. entries_are honest disks failures goes extends enough L n first c items is start legal;
-  node = λ L n m first c items is start legal on. of_order honest disks failures goes extends enough L n m first c items is start legal on;
-  images = λ L n first e c items is start legal taken. image_stands honest disks failures goes extends enough L n first c items is start legal e taken hold fronts;
-  rows = λ L n first e c items is start legal taken. row_is honest disks failures goes extends enough L n first c items is start legal e taken follow;
+pub histories_extend : {D : Type 0} (g : Ghosts D) → JudgingGoesOn → JudgedItemsExtendTheOrder → StateIsEnough → NodesHoldTheOrder → FrontsStandForTheOrder → StepsFollowTheOrder
+    → HistoriesExtendTheOrder g
+histories_extend g goes extends enough hold fronts follow = record {
+  entries = λ L n first c items is start legal. entries_are g goes extends enough L n first c items is start legal;
+  node = λ L n m first c items is start legal on. of_order g goes extends enough L n m first c items is start legal on;
+  images = λ L n first e c items is start legal taken. image_stands g goes extends enough L n first c items is start legal e taken hold fronts;
+  rows = λ L n first e c items is start legal taken. row_is g goes extends enough L n first c items is start legal e taken follow;
 }

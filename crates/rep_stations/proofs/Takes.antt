@@ -10,7 +10,7 @@ use Rattle.rep_types.specs.declared.limits.TheConstants.{MAX_SEQNO, MAX_AHEAD}
 use Rattle.rep_types.specs.Settings.{Setting}
 use Rattle.rep_types.specs.Windows.{Window}
 use Rattle.rep_types.specs.Order.{State}
-use Rattle.rep_disk.specs.History.{History}
+use Rattle.rep_disk.specs.declared.disk.Disk.{Ghosts}
 use Rattle.rep_record.specs.Blocks.{SeqnosFrom}
 use Rattle.rep_log.specs.declared.phase.Phase.{Phase}
 use Rattle.rep_log.specs.declared.phase.Phase.TheVariants.{Resting, Closing, Filling, Filled, Opening}
@@ -75,7 +75,7 @@ window_then goes n items m on k le =
     ∙ ap (λ i. (reached p m.base (take (k - i) (drop on.past all))).kept) at ∙ ap (λ (S : State). (reached p S (take more (drop on.past all))).kept) on.base
     ∙ ap (λ (S : State). S.kept) (sym (goes.reached_both p n.base (take on.past all) (take more (drop on.past all)))) ∙ ap (λ (js : List Judged). (reached p n.base js).kept) both
 
-module _ {D : Type 0} (honest : D → Type 0) (history : D → History) (failures : D → ℕ) (goes : JudgingGoesOn) (first : Engine D) (c : Holding) (n : Node) (start : StartsAs honest history failures first c n) where
+module _ {D : Type 0} (g : Ghosts D) (goes : JudgingGoesOn) (first : Engine D) (c : Holding) (n : Node) (start : StartsAs g first c n) where
   -- the first certifier's window is that of the node's state
   first_window : window_of c c.delivered ≡ (came n).kept
   first_window =
@@ -133,15 +133,14 @@ running_within : (phase : Phase) (halted : Option Phase) (block : List Judged) �
 running_within phase None block h runs = opening_within phase block h
 running_within phase (Some before) block h runs = absurd (let never : true ≡ false = runs in cc)
 
-module _ {D : Type 0} (honest : D → Type 0) (history : D → History) (failures : D → ℕ) (goes : JudgingGoesOn) (first : Engine D) (c : Holding) (items : List Judged) (old : Engine D)
-    (taken : HasTaken honest history failures first c items old) where
+module _ {D : Type 0} (g : Ghosts D) (goes : JudgingGoesOn) (first : Engine D) (c : Holding) (items : List Judged) (old : Engine D)
+    (taken : HasTaken g first c items old) where
   -- ---- a step of the engine, which leads each of the nodes on
 
-  pub step_taken : (new : Engine D) (e : Event) (a : Answer) → IsOfAnEngine e → IsAnEngine old → Moves (facts_of failures old) e a (facts_of failures new)
-      → ((n m : Node) → StartsAs honest history failures first c n → GoesOn n items m → Holds honest history failures m old → (k : Node) × Steps m e a k × Holds honest history failures k new)
-      → HasTaken honest history failures first c items new
+  pub step_taken : (new : Engine D) (e : Event) (a : Answer) → IsOfAnEngine e → IsAnEngine old → Moves (facts_of g old) e a (facts_of g new)
+      → ((n m : Node) → StartsAs g first c n → GoesOn n items m → Holds g m old → (k : Node) × Steps m e a k × Holds g k new) → HasTaken g first c items new
   step_taken new e a own is moves steps =
-      let go = facts_go (facts_of failures old) (facts_of failures new) e a own (running_within old.log.phase old.halted old.block is.whole) moves in
+      let go = facts_go (facts_of g old) (facts_of g new) e a own (running_within old.log.phase old.halted old.block is.whole) moves in
       let left : length new.block ≡ length old.block - go.told = ap length go.ahead ∙ length-drop go.told old.block in
       record {
         setting = go.setting ∙ taken.setting;
@@ -175,7 +174,7 @@ module _ {D : Type 0} (honest : D → Type 0) (history : D → History) (failure
       }
 
   -- and is the node's
-  pub window_there : (more : List Judged) (h : Holding) → HasJudged c (items ++ more) h → h.delivered ≤ durable_of old.log + MAX_AHEAD → (n m : Node) → StartsAs honest history failures first c n → GoesOn n items m → Holds honest history failures m old
+  pub window_there : (more : List Judged) (h : Holding) → HasJudged c (items ++ more) h → h.delivered ≤ durable_of old.log + MAX_AHEAD → (n m : Node) → StartsAs g first c n → GoesOn n items m → Holds g m old
       → window_of h (durable_of old.log) ≡ window_at m m.facts.durable
   window_there more h judged few n m start on holds =
       let ask = askable more h judged few in
@@ -183,7 +182,7 @@ module _ {D : Type 0} (honest : D → Type 0) (history : D → History) (failure
       let at : m.facts.durable ≡ d = ap (λ (s : Standing). s.durable) holds.facts in
       let low : m.base.position ≤ d = omega (arith, at, holds.node.position, holds.node.facts.based) in
       let begun : n.base.position ≤ d = omega (arith, low, base_at goes n items m on) in
-      history_windows honest history failures goes first c n start (items ++ more) h judged d begun ask
+      history_windows g goes first c n start (items ++ more) h judged d begun ask
       ∙ ap (λ (js : List Judged). (reached n.facts.setting n.base (take (d - n.base.position) js)).kept) (sym (append_assoc n.items items more))
       ∙ ap (λ (js : List Judged). (reached n.facts.setting n.base js).kept) (take-append-le (d - n.base.position) (n.items ++ items) more (omega (arith, taken.count, start.count, length-append n.items items)))
       ∙ sym (window_then goes n items m on d low) ∙ ap (window_at m) (sym at)
@@ -205,9 +204,9 @@ module _ {D : Type 0} (honest : D → Type 0) (history : D → History) (failure
       }
 
   pub more_taken : (new : Engine D) (waits : List Judged) (count : ℕ) → count ≤ length waits
-      → facts_of failures new ≡ record (facts_of failures old) { ahead = old.block ++ take count waits }
-      → ((n : Node) → Holds honest history failures n old → AreJudgedFrom n.facts.setting (reached n.facts.setting n.base n.items) (take count waits) → Holds honest history failures (with_items (take count waits) n) new)
-      → Legal c (items ++ waits) → HasTaken honest history failures first c (items ++ take count waits) new
+      → facts_of g new ≡ record (facts_of g old) { ahead = old.block ++ take count waits }
+      → ((n : Node) → Holds g n old → AreJudgedFrom n.facts.setting (reached n.facts.setting n.base n.items) (take count waits) → Holds g (with_items (take count waits) n) new)
+      → Legal c (items ++ waits) → HasTaken g first c (items ++ take count waits) new
   more_taken new waits count few facts holds legal =
       let js = take count waits in
       let durable : durable_of new.log ≡ durable_of old.log = ap (λ (s : Standing). s.durable) facts in
@@ -224,12 +223,12 @@ module _ {D : Type 0} (honest : D → Type 0) (history : D → History) (failure
             let at = taken.stands n start in
             let m = at.0 in
             let judged : AreJudgedFrom m.facts.setting (reached m.facts.setting m.base m.items) js =
-            goes.judged_front m.facts.setting (reached m.facts.setting m.base m.items) count waits (judged_then honest history failures goes first c n start items waits m at.1 legal) in
+            goes.judged_front m.facts.setting (reached m.facts.setting m.base m.items) count waits (judged_then g goes first c n start items waits m at.1 legal) in
             (with_items js m, more_on js n m at.1, holds m at.2 judged);
       }
 
   -- what waits comes next
-  pub waits_come : (waits : List Judged) → Legal c (items ++ waits) → c.delivered + length (items ++ waits) ≤ MAX_SEQNO → (IsTrue (is_nil_bytes first.checkpoint.base.uuid) → waits ≡ []) → ComeNext (facts_of failures old) waits
+  pub waits_come : (waits : List Judged) → Legal c (items ++ waits) → c.delivered + length (items ++ waits) ≤ MAX_SEQNO → (IsTrue (is_nil_bytes first.checkpoint.base.uuid) → waits ≡ []) → ComeNext (facts_of g old) waits
   waits_come waits legal limit undefined =
       let long : length (items ++ waits) ≡ length items + length waits = length-append items waits in
       let seqnos : SeqnosFrom (c.delivered + 1) (items ++ waits) = goes.judged_seqnos c.setting (start_of c) (items ++ waits) legal in
@@ -242,14 +241,14 @@ module _ {D : Type 0} (honest : D → Type 0) (history : D → History) (failure
 
 -- ---- the law
 
-pub stay_taken : {D : Type 0} (honest : D → Type 0) (history : D → History) (failures : D → ℕ) → JudgingGoesOn → TakenItemsStay honest history failures
-stay_taken honest history failures goes = record {
-  step = λ old new e a own is moves steps first c items taken. step_taken honest history failures goes first c items old taken new e a own is moves (λ n m start on holds. steps m holds);
+pub stay_taken : {D : Type 0} (g : Ghosts D) → JudgingGoesOn → TakenItemsStay g
+stay_taken g goes = record {
+  step = λ old new e a own is moves steps first c items taken. step_taken g goes first c items old taken new e a own is moves (λ n m start on holds. steps m holds);
   check = λ old new a h is moves steps first c items more judged near taken.
-      step_taken honest history failures goes first c items old taken new Check a tt is moves
-      (λ n m start on holds. steps m holds (window_there honest history failures goes first c items old taken more h judged near n m start on holds));
-  window = λ e h first c items more judged near windows taken. window_held honest history failures goes first c items e taken more h judged near windows;
-  synced = λ old new rs is moves. sync_tells (facts_of failures old) (facts_of failures new) rs (running_within old.log.phase old.halted old.block is.whole) moves;
-  still = λ old new e a own moves. durable_still (facts_of failures old) (facts_of failures new) e a own moves;
-  comes = λ first e c items waits taken legal limit undefined. waits_come honest history failures goes first c items e taken waits legal limit undefined;
+      step_taken g goes first c items old taken new Check a tt is moves
+      (λ n m start on holds. steps m holds (window_there g goes first c items old taken more h judged near n m start on holds));
+  window = λ e h first c items more judged near windows taken. window_held g goes first c items e taken more h judged near windows;
+  synced = λ old new rs is moves. sync_tells (facts_of g old) (facts_of g new) rs (running_within old.log.phase old.halted old.block is.whole) moves;
+  still = λ old new e a own moves. durable_still (facts_of g old) (facts_of g new) e a own moves;
+  comes = λ first e c items waits taken legal limit undefined. waits_come g goes first c items e taken waits legal limit undefined;
 }

@@ -25,7 +25,7 @@ pub fn histories_go_on()
 /// `flush` and `read`. A check is lent a certifier that has judged these items, and perhaps more. A sync that succeeds makes as many
 /// items durable as it gives replies, and no other step makes any durable; and what waits behind what was taken comes next.
 pub fn taken_items_stay<D: Disk>()
-    ensures { TakenItemsStay D.honest D.history D.failures }
+    ensures { TakenItemsStay D.Disk }
 {
     judging_goes_on();
 }
@@ -34,7 +34,7 @@ pub fn taken_items_stay<D: Disk>()
 /// items at its end: each with its seqno and its verdict there. Of an engine that has taken the history each image of the device stands
 /// for a front of that longer order with what is durable, also once the device failed, and each row that it reads is the row of it.
 pub fn histories_extend_the_order<D: Disk>()
-    ensures { HistoriesExtendTheOrder D.honest D.history D.failures }
+    ensures { HistoriesExtendTheOrder D.Disk }
 {
     judging_goes_on();
     judged_items_extend_the_order();
@@ -48,7 +48,7 @@ pub fn histories_extend_the_order<D: Disk>()
 /// taken; and what stands at the end of a history is what `Replica::from_parts` asks for, stopped or not. A replica that is put together
 /// so without a stop stands for what the first one stood for, with all items of the history.
 pub fn histories_lie_between_replicas<D: Disk>()
-    ensures { HistoriesLieBetweenReplicas D.honest D.history D.failures }
+    ensures { HistoriesLieBetweenReplicas D.Disk }
 {
     judging_goes_on();
 }

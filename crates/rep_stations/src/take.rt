@@ -21,11 +21,11 @@ use rep_types::Refusal;
 /// Refuses with `Stopped` where the device has failed before, and with `OutOfMemory` where the block may take more; engine and backlog
 /// are then as they were.
 pub fn take_next<D: Disk>(engine: &mut Engine<D>, backlog: &mut Backlog) -> Result<u16, Refusal>
-    requires { ComeNext (facts_of D.failures engine.old) backlog.old }
+    requires { ComeNext (facts_of D.Disk engine.old) backlog.old }
     ensures count { IfOk result (λ count. count ≡ accepted_in engine.old.log.phase engine.old.block backlog.old) }
     ensures within { IfOk result (λ count. count ≤ length backlog.old) }
     // The history that it has taken goes on by these items.
-    ensures taken { IfOk result (λ count. TakesMore D.honest D.history D.failures engine.old backlog.old count engine.new) }
+    ensures taken { IfOk result (λ count. TakesMore D.Disk engine.old backlog.old count engine.new) }
     ensures left { IfOk result (λ count. backlog.new ≡ drop count backlog.old) }
     ensures rest { engine.new ≡ record (engine.old) { kept = engine.new.kept; block = engine.new.block } }
     ensures running { OnOk result (engine.old.halted ≡ None) }

@@ -13,3 +13,4 @@ pub mod Texts
 pub mod Numbers
 pub mod Gtids
 pub mod Replies
+pub mod Sums

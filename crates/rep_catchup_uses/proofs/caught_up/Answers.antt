@@ -8,14 +8,14 @@ pub returns-in-Ok-clause-caught : goal.returns-in-Ok-clause-caught
 returns-in-Ok-clause-caught g c = λ O n k may donor joiner.
     let given = c.in-Ok.ensures.given n donor in
     c.take.ensures.caught O n k c.have-have.result given.0
-    (record { may = may; node = donor.node; joiner = is_joiner g.E.Disk.honest g.E.Disk.history g.E.Disk.failures O n k may c.args.joiner joiner c.have-have.result c.have-have.ensures.have; donated = given.1 })
+    (record { may = may; node = donor.node; joiner = is_joiner g.E.Disk O n k may c.args.joiner joiner c.have-have.result c.have-have.ensures.have; donated = given.1 })
     (c.bytes.ensures ∙ given.2) joiner
 
 pub returns-in-Ok-clause-refused : goal.returns-in-Ok-clause-refused
 returns-in-Ok-clause-refused g c = λ O n k may donor joiner.
     let given = c.in-Ok.ensures.given n donor in
     c.take.ensures.refused O n k c.have-have.result given.0
-    (record { may = may; node = donor.node; joiner = is_joiner g.E.Disk.honest g.E.Disk.history g.E.Disk.failures O n k may c.args.joiner joiner c.have-have.result c.have-have.ensures.have; donated = given.1 })
+    (record { may = may; node = donor.node; joiner = is_joiner g.E.Disk O n k may c.args.joiner joiner c.have-have.result c.have-have.ensures.have; donated = given.1 })
     (c.bytes.ensures ∙ given.2) joiner
 
 pub returns-in-Ok-clause-donor : goal.returns-in-Ok-clause-donor
@@ -26,7 +26,7 @@ returns-in-Ok-clause-fault g c = λ fault. inr (c.take.ensures.fault fault)
 
 pub returns-clause-refused : goal.returns-clause-refused
 returns-clause-refused g c = λ O n k may donor joiner.
-    c.in-Err.ensures.refused n donor (is_served g.E.Disk.honest g.E.Disk.history g.E.Disk.failures O n k may c.args.joiner joiner g.D.Disk.honest g.D.Disk.history g.D.Disk.failures c.args.donor.now c.have-have.result c.have-have.ensures.have donor)
+    c.in-Err.ensures.refused n donor (is_served g.E.Disk O n k may c.args.joiner joiner g.D.Disk c.args.donor.now c.have-have.result c.have-have.ensures.have donor)
 
 pub returns-clause-donor : goal.returns-clause-donor
 returns-clause-donor g c = λ n donor other. c.give.ensures.donor n donor (λ fault. other (ap (λ (e : Refusal). Err e) (err_is c.in-Err.refusal DiskFault c.give.result c.in-Err.is fault)))

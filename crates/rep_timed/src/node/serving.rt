@@ -60,7 +60,7 @@ fn new_replica<D: Disk + Drop>(alloc: Global, disk: D) -> Result<Replica<D>, Ref
 ///
 /// Refuses as `Replica::settle` does, and with `Undefined` where the replica belongs to no cluster.
 fn settle<D: Disk>(replica: &mut Replica<D>) -> Result<(), Refusal>
-    ensures quiet { OnOk result (is_quiet (facts_of D.failures replica.new) ≡ true) }
+    ensures quiet { OnOk result (is_quiet (facts_of D.Disk replica.new) ≡ true) }
     ensures defined { OnOk result (IsFalse (is_nil_bytes replica.new.engine.checkpoint.base.uuid)) }
 {
     replica.settle()?;
@@ -82,7 +82,7 @@ fn started<R: Wait, D: Disk + Drop>(
     replica: Replica<D>,
     readers: usize,
 ) -> Result<Started<D>, Refusal>
-    requires quiet { is_quiet (facts_of D.failures replica) ≡ true }
+    requires quiet { is_quiet (facts_of D.Disk replica) ≡ true }
     requires defined { IsFalse (is_nil_bytes replica.engine.checkpoint.base.uuid) }
     requires readers { (0 < readers) × (readers ≤ 64) }
     ensures lock { IfOk result (λ made. made.1.lock ≡ made.0) }
@@ -130,7 +130,7 @@ fn serve_settled<R: Clock + Threads + Wait + Sync, D: Disk + Drop + Send>(
     readers: usize,
     watchers: &mut Watchers,
 ) -> Result<(u64, Outcome), Refusal>
-    requires quiet { is_quiet (facts_of D.failures replica) ≡ true }
+    requires quiet { is_quiet (facts_of D.Disk replica) ≡ true }
     requires defined { IsFalse (is_nil_bytes replica.engine.checkpoint.base.uuid) }
     requires workers { (0 < workers) × (workers ≤ 64) }
     requires readers { readers ≤ 64 }

@@ -9,10 +9,10 @@ use Rattle.rep_catchup.proofs.donor.write_base.Goals as goal
 pub returns-in_err-write_snapshot-clause-leaves : goal.returns-in_err-write_snapshot-clause-leaves
 returns-in_err-write_snapshot-clause-leaves g c =
     let p = err_from_is_err_and c.from_residual.result c.from_residual.ensures.1 in
-    rw (p.1, p.2) (leaves_passed g.D.Disk.honest g.D.Disk.history g.D.Disk.failures c.args.replica.now c.write_snapshot.new.replica _ _ c.in_err-write_snapshot.field-0.0 c.in_err-write_snapshot.ensures.leaves)
+    rw (p.1, p.2) (leaves_passed g.D.Disk c.args.replica.now c.write_snapshot.new.replica _ _ c.in_err-write_snapshot.field-0.0 c.in_err-write_snapshot.ensures.leaves)
 
 pub returns-clause-leaves : goal.returns-clause-leaves
-returns-clause-leaves g c = leaves_given g.D.Disk.honest g.D.Disk.history g.D.Disk.failures c.args.replica.now c.write_snapshot.new.replica _ _ c.in_ok-write_snapshot.field-0 c.base.result c.in_ok-write_snapshot.ensures.leaves
+returns-clause-leaves g c = leaves_given g.D.Disk c.args.replica.now c.write_snapshot.new.replica _ _ c.in_ok-write_snapshot.field-0 c.base.result c.in_ok-write_snapshot.ensures.leaves
 
 pub returns-in_err-write_snapshot-clause-writes : goal.returns-in_err-write_snapshot-clause-writes
 returns-in_err-write_snapshot-clause-writes g c =
@@ -24,7 +24,7 @@ pub returns-clause-writes : goal.returns-clause-writes
 returns-clause-writes g c =
     let old = c.args.replica.now in
     let now = c.write_snapshot.new.replica in
-    let same : now.engine.checkpoint.base.position ≡ old.engine.checkpoint.base.position = same_of g.D.Disk.honest g.D.Disk.history g.D.Disk.failures (λ (r : Replica g.row.D.Denot). r.engine.checkpoint.base.position) old now c.in_ok-write_snapshot.ensures.leaves.reads refl in
+    let same : now.engine.checkpoint.base.position ≡ old.engine.checkpoint.base.position = same_of g.D.Disk (λ (r : Replica g.row.D.Denot). r.engine.checkpoint.base.position) old now c.in_ok-write_snapshot.ensures.leaves.reads refl in
     let (s, is, known, written) = c.in_ok-write_snapshot.ensures.writes.done in
     record {
       done = (Some s, (is.0, (c.needs_snapshot.ensures.0 c.if-not-needs_snapshot.false, is.1)), record { is_behind = c.base.ensures ∙ same ∙ sym is.1.position; snapshot = known }, written);

@@ -7,32 +7,32 @@ use Rattle.rep_catchup.proofs.donor.write_pages.Goals as goal
 
 pub loop-number-init : goal.loop-number-init
 loop-number-init g c = record {
-  leaves = leaves_all g.D.Disk.honest g.D.Disk.history g.D.Disk.failures c.args.replica.now _ tt c.requires;
-  written = wrote_no_pages g.D.Disk.honest g.D.Disk.history g.D.Disk.failures c.args.replica.now (g.W.Sink.contents c.args.writer.now);
+  leaves = leaves_all g.D.Disk c.args.replica.now _ tt c.requires;
+  written = wrote_no_pages g.D.Disk c.args.replica.now (g.W.Sink.contents c.args.writer.now);
 }
 
 pub returns-in_err-write_base_page-clause-leaves : goal.returns-in_err-write_base_page-clause-leaves
 returns-in_err-write_base_page-clause-leaves g c =
     let p = err_from_is_err_and c.from_residual.result c.from_residual.ensures.1 in
-    rw (p.1, p.2) (leaves_then g.D.Disk.honest g.D.Disk.history g.D.Disk.failures c.args.replica.now c.loop-number.replica c.write_base_page.new.replica _ _ _ tt (Err c.in_err-write_base_page.field-0.0)
+    rw (p.1, p.2) (leaves_then g.D.Disk c.args.replica.now c.loop-number.replica c.write_base_page.new.replica _ _ _ tt (Err c.in_err-write_base_page.field-0.0)
     c.loop-number.invariant.leaves c.in_err-write_base_page.ensures.leaves)
 
 pub loop-number-preserved : goal.loop-number-preserved
 loop-number-preserved g c =
     let old = c.args.replica.now in
-    let page = (page_before g.D.Disk.honest g.D.Disk.history g.D.Disk.failures old c.loop-number.replica c.loop-number.number (g.W.Sink.contents c.loop-number.writer) (g.W.Sink.contents c.write_base_page.new.writer) (Ok tt) c.loop-number.invariant.leaves.reads
-    (λ n h. still_holds g.D.Disk.honest g.D.Disk.history g.D.Disk.failures old c.loop-number.replica _ _ tt n c.loop-number.invariant.leaves h) c.in_ok-write_base_page.ensures.writes).done in
+    let page = (page_before g.D.Disk old c.loop-number.replica c.loop-number.number (g.W.Sink.contents c.loop-number.writer) (g.W.Sink.contents c.write_base_page.new.writer) (Ok tt) c.loop-number.invariant.leaves.reads
+    (λ n h. still_holds g.D.Disk old c.loop-number.replica _ _ tt n c.loop-number.invariant.leaves h) c.in_ok-write_base_page.ensures.writes).done in
     record {
-      leaves = leaves_then g.D.Disk.honest g.D.Disk.history g.D.Disk.failures old c.loop-number.replica c.write_base_page.new.replica _ _ _ tt (Ok tt) c.loop-number.invariant.leaves c.in_ok-write_base_page.ensures.leaves;
-      written = wrote_more_pages g.D.Disk.honest g.D.Disk.history g.D.Disk.failures old c.loop-number.number (g.W.Sink.contents c.args.writer.now) (g.W.Sink.contents c.loop-number.writer) (g.W.Sink.contents c.write_base_page.new.writer) page.0 c.loop-number.invariant.written page.1 page.2 page.3;
+      leaves = leaves_then g.D.Disk old c.loop-number.replica c.write_base_page.new.replica _ _ _ tt (Ok tt) c.loop-number.invariant.leaves c.in_ok-write_base_page.ensures.leaves;
+      written = wrote_more_pages g.D.Disk old c.loop-number.number (g.W.Sink.contents c.args.writer.now) (g.W.Sink.contents c.loop-number.writer) (g.W.Sink.contents c.write_base_page.new.writer) page.0 c.loop-number.invariant.written page.1 page.2 page.3;
     }
 
 pub returns-in_err-write_base_page-clause-writes : goal.returns-in_err-write_base_page-clause-writes
 returns-in_err-write_base_page-clause-writes g c =
     let p = err_from_is_err_and c.from_residual.result c.from_residual.ensures.1 in
     let old = c.args.replica.now in
-    let page = (page_before g.D.Disk.honest g.D.Disk.history g.D.Disk.failures old c.loop-number.replica c.loop-number.number (g.W.Sink.contents c.loop-number.writer) (g.W.Sink.contents c.write_base_page.new.writer) (Err c.in_err-write_base_page.field-0.0) c.loop-number.invariant.leaves.reads
-    (λ n h. still_holds g.D.Disk.honest g.D.Disk.history g.D.Disk.failures old c.loop-number.replica _ _ tt n c.loop-number.invariant.leaves h) c.in_err-write_base_page.ensures.writes).cut in
+    let page = (page_before g.D.Disk old c.loop-number.replica c.loop-number.number (g.W.Sink.contents c.loop-number.writer) (g.W.Sink.contents c.write_base_page.new.writer) (Err c.in_err-write_base_page.field-0.0) c.loop-number.invariant.leaves.reads
+    (λ n h. still_holds g.D.Disk old c.loop-number.replica _ _ tt n c.loop-number.invariant.leaves h) c.in_err-write_base_page.ensures.writes).cut in
     let most = c.page_count-number-end.ensures in
     rw (p.1, p.2) (record {
       done = tt;
@@ -44,5 +44,5 @@ pub returns-clause-writes : goal.returns-clause-writes
 returns-clause-writes g c =
     let old = c.args.replica.now in
     let all : c.loop-number.number ≡ pages_of old.engine.checkpoint.base.params.rows = omega (arith, c.page_count-number-end.ensures, c.loop-number-test.false, c.loop-number.auto.number-end) in
-    let w = subst (λ (k : ℕ). WrotePages g.D.Disk.honest g.D.Disk.history g.D.Disk.failures old k (g.W.Sink.contents c.args.writer.now) (g.W.Sink.contents c.loop-number.writer)) all c.loop-number.invariant.written in
+    let w = subst (λ (k : ℕ). WrotePages g.D.Disk old k (g.W.Sink.contents c.args.writer.now) (g.W.Sink.contents c.loop-number.writer)) all c.loop-number.invariant.written in
     record { done = (w.pages, w.are_pages, w.known, w.written); cut = tt }

@@ -11,8 +11,8 @@ use Rattle.rep_catchup.proofs.donor.write_tail.Goals as goal
 
 pub loop-block-init : goal.loop-block-init
 loop-block-init g c = record {
-  leaves = leaves_all g.D.Disk.honest g.D.Disk.history g.D.Disk.failures c.args.replica.now _ tt c.requires;
-  written = wrote_no_blocks g.D.Disk.honest g.D.Disk.history g.D.Disk.failures c.args.replica.now c.args.position (g.W.Sink.contents c.args.writer.now);
+  leaves = leaves_all g.D.Disk c.args.replica.now _ tt c.requires;
+  written = wrote_no_blocks g.D.Disk c.args.replica.now c.args.position (g.W.Sink.contents c.args.writer.now);
 }
 
 pub returns-in_err-block-clause-leaves : goal.returns-in_err-block-clause-leaves
@@ -23,14 +23,14 @@ returns-in_err-block-clause-leaves g c =
     let now = c.loop-block.replica in
     let new = c.tail_block.new.self in
     let left = c.loop-block.invariant.leaves in
-    rw (p.1, p.2) (leaves_passed g.D.Disk.honest g.D.Disk.history g.D.Disk.failures old new _ _ e (leaves_then g.D.Disk.honest g.D.Disk.history g.D.Disk.failures old now new (g.W.Sink.failed c.args.writer.now) (g.W.Sink.failed c.loop-block.writer) (g.W.Sink.failed c.loop-block.writer) tt (Err e) left
-    (leaves_asked g.D.Disk.honest g.D.Disk.history g.D.Disk.failures _ _ now new (g.W.Sink.failed c.loop-block.writer) (Err e) c.in_err-block.ensures.asks left.runs c.in_err-block.ensures.holds c.in_err-block.ensures.whole
-    (λ h is. bad_block (as_seen g.D.Disk.history now.engine) now.engine.layout now.engine.checkpoint.base now.engine.log c.loop-block.index (Err e) (λ past. c.in_err-block.ensures.behind past left.runs) (c.in_err-block.ensures.spelled h) is))))
+    rw (p.1, p.2) (leaves_passed g.D.Disk old new _ _ e (leaves_then g.D.Disk old now new (g.W.Sink.failed c.args.writer.now) (g.W.Sink.failed c.loop-block.writer) (g.W.Sink.failed c.loop-block.writer) tt (Err e) left
+    (leaves_asked g.D.Disk _ now new (g.W.Sink.failed c.loop-block.writer) (Err e) c.in_err-block.ensures.asks left.runs c.in_err-block.ensures.holds c.in_err-block.ensures.whole
+    (λ h is. bad_block (as_seen g.D.Disk now.engine) now.engine.layout now.engine.checkpoint.base now.engine.log c.loop-block.index (Err e) (λ past. c.in_err-block.ensures.behind past left.runs) (c.in_err-block.ensures.spelled h) is))))
 
 pub returns-in_err-block-clause-writes : goal.returns-in_err-block-clause-writes
 returns-in_err-block-clause-writes g c =
     let p = err_from_is_err_and c.from_residual.result c.from_residual.ensures.1 in
-    rw (p.1, p.2) (blocks_end g.D.Disk.honest g.D.Disk.history g.D.Disk.failures c.args.replica.now c.args.position c.loop-block.index (g.W.Sink.contents c.args.writer.now) (g.W.Sink.contents c.loop-block.writer) c.in_err-block.field-0.0 c.loop-block.invariant.written)
+    rw (p.1, p.2) (blocks_end g.D.Disk c.args.replica.now c.args.position c.loop-block.index (g.W.Sink.contents c.args.writer.now) (g.W.Sink.contents c.loop-block.writer) c.in_err-block.field-0.0 c.loop-block.invariant.written)
 
 pub returns-in_err-write_block-clause-leaves : goal.returns-in_err-write_block-clause-leaves
 returns-in_err-write_block-clause-leaves g c =
@@ -41,10 +41,10 @@ returns-in_err-write_block-clause-leaves g c =
     let now = c.loop-block.replica in
     let new = c.tail_block.new.self in
     let left = c.loop-block.invariant.leaves in
-    let read = leaves_then g.D.Disk.honest g.D.Disk.history g.D.Disk.failures old now new (g.W.Sink.failed c.args.writer.now) (g.W.Sink.failed c.loop-block.writer) (g.W.Sink.failed c.loop-block.writer) tt (Ok x) left
-    (leaves_asked g.D.Disk.honest g.D.Disk.history g.D.Disk.failures _ _ now new (g.W.Sink.failed c.loop-block.writer) (Ok x) c.in_ok-block.ensures.asks left.runs c.in_ok-block.ensures.holds c.in_ok-block.ensures.whole
-    (λ h is. bad_block (as_seen g.D.Disk.history now.engine) now.engine.layout now.engine.checkpoint.base now.engine.log c.loop-block.index (Ok x) (λ past. c.in_ok-block.ensures.behind past left.runs) (c.in_ok-block.ensures.spelled h) is)) in
-    rw (p.1, p.2) (leaves_then g.D.Disk.honest g.D.Disk.history g.D.Disk.failures old new new _ _ _ x (Err e) read (leaves_cut g.D.Disk.honest g.D.Disk.history g.D.Disk.failures new _ _ e c.in_err-write_block.ensures.written.refused c.in_err-write_block.ensures.notes))
+    let read = leaves_then g.D.Disk old now new (g.W.Sink.failed c.args.writer.now) (g.W.Sink.failed c.loop-block.writer) (g.W.Sink.failed c.loop-block.writer) tt (Ok x) left
+    (leaves_asked g.D.Disk _ now new (g.W.Sink.failed c.loop-block.writer) (Ok x) c.in_ok-block.ensures.asks left.runs c.in_ok-block.ensures.holds c.in_ok-block.ensures.whole
+    (λ h is. bad_block (as_seen g.D.Disk now.engine) now.engine.layout now.engine.checkpoint.base now.engine.log c.loop-block.index (Ok x) (λ past. c.in_ok-block.ensures.behind past left.runs) (c.in_ok-block.ensures.spelled h) is)) in
+    rw (p.1, p.2) (leaves_then g.D.Disk old new new _ _ _ x (Err e) read (leaves_cut g.D.Disk new _ _ e c.in_err-write_block.ensures.written.refused c.in_err-write_block.ensures.notes))
 
 pub returns-in_err-write_block-clause-writes : goal.returns-in_err-write_block-clause-writes
 returns-in_err-write_block-clause-writes g c =
@@ -54,9 +54,9 @@ returns-in_err-write_block-clause-writes g c =
     let old = c.args.replica.now in
     let now = c.loop-block.replica in
     let left = c.loop-block.invariant.leaves in
-    let due = due_first g.D.Disk.honest g.D.Disk.history g.D.Disk.failures old now left.reads c.loop-block.index x block c.in-Some.is c.in_ok-block.ensures.none in
-    let form = form_first g.D.Disk.honest g.D.Disk.history g.D.Disk.failures old now left.reads c.loop-block.index x block c.in-Some.is c.in_ok-block.ensures.form in
-    rw (p.1, p.2) (blocks_end_within g.D.Disk.honest g.D.Disk.history g.D.Disk.failures old c.args.position c.loop-block.index block.records (g.W.Sink.contents c.args.writer.now) (g.W.Sink.contents c.loop-block.writer) (g.W.Sink.contents c.write_block.new.writer) c.in_err-write_block.field-0.0 c.loop-block.invariant.written due form c.in_err-write_block.ensures.written)
+    let due = due_first g.D.Disk old now left.reads c.loop-block.index x block c.in-Some.is c.in_ok-block.ensures.none in
+    let form = form_first g.D.Disk old now left.reads c.loop-block.index x block c.in-Some.is c.in_ok-block.ensures.form in
+    rw (p.1, p.2) (blocks_end_within g.D.Disk old c.args.position c.loop-block.index block.records (g.W.Sink.contents c.args.writer.now) (g.W.Sink.contents c.loop-block.writer) (g.W.Sink.contents c.write_block.new.writer) c.in_err-write_block.field-0.0 c.loop-block.invariant.written due form c.in_err-write_block.ensures.written)
 
 pub loop-block-preserved : goal.loop-block-preserved
 loop-block-preserved g c =
@@ -66,19 +66,19 @@ loop-block-preserved g c =
     let now = c.loop-block.replica in
     let new = c.tail_block.new.self in
     let left = c.loop-block.invariant.leaves in
-    let read = leaves_then g.D.Disk.honest g.D.Disk.history g.D.Disk.failures old now new (g.W.Sink.failed c.args.writer.now) (g.W.Sink.failed c.loop-block.writer) (g.W.Sink.failed c.loop-block.writer) tt (Ok x) left
-    (leaves_asked g.D.Disk.honest g.D.Disk.history g.D.Disk.failures _ _ now new (g.W.Sink.failed c.loop-block.writer) (Ok x) c.in_ok-block.ensures.asks left.runs c.in_ok-block.ensures.holds c.in_ok-block.ensures.whole
-    (λ h is. bad_block (as_seen g.D.Disk.history now.engine) now.engine.layout now.engine.checkpoint.base now.engine.log c.loop-block.index (Ok x) (λ past. c.in_ok-block.ensures.behind past left.runs) (c.in_ok-block.ensures.spelled h) is)) in
-    let due = due_first g.D.Disk.honest g.D.Disk.history g.D.Disk.failures old now left.reads c.loop-block.index x block c.in-Some.is c.in_ok-block.ensures.none in
-    let form = form_first g.D.Disk.honest g.D.Disk.history g.D.Disk.failures old now left.reads c.loop-block.index x block c.in-Some.is c.in_ok-block.ensures.form in
+    let read = leaves_then g.D.Disk old now new (g.W.Sink.failed c.args.writer.now) (g.W.Sink.failed c.loop-block.writer) (g.W.Sink.failed c.loop-block.writer) tt (Ok x) left
+    (leaves_asked g.D.Disk _ now new (g.W.Sink.failed c.loop-block.writer) (Ok x) c.in_ok-block.ensures.asks left.runs c.in_ok-block.ensures.holds c.in_ok-block.ensures.whole
+    (λ h is. bad_block (as_seen g.D.Disk now.engine) now.engine.layout now.engine.checkpoint.base now.engine.log c.loop-block.index (Ok x) (λ past. c.in_ok-block.ensures.behind past left.runs) (c.in_ok-block.ensures.spelled h) is)) in
+    let due = due_first g.D.Disk old now left.reads c.loop-block.index x block c.in-Some.is c.in_ok-block.ensures.none in
+    let form = form_first g.D.Disk old now left.reads c.loop-block.index x block c.in-Some.is c.in_ok-block.ensures.form in
     record {
-      leaves = leaves_then g.D.Disk.honest g.D.Disk.history g.D.Disk.failures old new new _ _ _ x (Ok tt) read (leaves_noted g.D.Disk.honest g.D.Disk.history g.D.Disk.failures new _ _ tt c.in_ok-write_block.ensures.notes read.runs);
-      written = wrote_more_blocks g.D.Disk.honest g.D.Disk.history g.D.Disk.failures old c.args.position c.the_tail_is_told.ensures c.loop-block.index block.records (g.W.Sink.contents c.args.writer.now) (g.W.Sink.contents c.loop-block.writer) (g.W.Sink.contents c.write_block.new.writer) c.loop-block.invariant.written due form
-          (λ h. there_first g.D.Disk.honest g.D.Disk.history g.D.Disk.failures old now left.reads c.loop-block.index x block c.in-Some.is h (c.in_ok-block.ensures.spelled (left.reads.is_honest h)).block)
+      leaves = leaves_then g.D.Disk old new new _ _ _ x (Ok tt) read (leaves_noted g.D.Disk new _ _ tt c.in_ok-write_block.ensures.notes read.runs);
+      written = wrote_more_blocks g.D.Disk old c.args.position c.the_tail_is_told.ensures c.loop-block.index block.records (g.W.Sink.contents c.args.writer.now) (g.W.Sink.contents c.loop-block.writer) (g.W.Sink.contents c.write_block.new.writer) c.loop-block.invariant.written due form
+          (λ h. there_first g.D.Disk old now left.reads c.loop-block.index x block c.in-Some.is h (c.in_ok-block.ensures.spelled (left.reads.is_honest h)).block)
           (λ n h.
           let here = subst (λ (o : Option Contents). IfSome o (λ b. IsTailBlock n now.engine.layout (g.D.Disk.history now.engine.disk) now.engine.checkpoint.base now.engine.log c.loop-block.index b.records)) c.in-Some.is
-          (c.in_ok-block.ensures.block n (still_holds g.D.Disk.honest g.D.Disk.history g.D.Disk.failures old now _ _ tt n left h)) in
-          block_at_first g.D.Disk.honest g.D.Disk.history g.D.Disk.failures n old now c.loop-block.index block.records left.reads h.engine.is_honest here)
+          (c.in_ok-block.ensures.block n (still_holds g.D.Disk old now _ _ tt n left h)) in
+          block_at_first g.D.Disk n old now c.loop-block.index block.records left.reads h.engine.is_honest here)
           c.in_ok-write_block.ensures.written.done;
     }
 
@@ -89,14 +89,14 @@ returns-clause-leaves g c =
     let now = c.loop-block.replica in
     let new = c.tail_block.new.self in
     let left = c.loop-block.invariant.leaves in
-    leaves_given g.D.Disk.honest g.D.Disk.history g.D.Disk.failures old new _ _ x tt (leaves_then g.D.Disk.honest g.D.Disk.history g.D.Disk.failures old now new (g.W.Sink.failed c.args.writer.now) (g.W.Sink.failed c.loop-block.writer) (g.W.Sink.failed c.loop-block.writer) tt (Ok x) left
-    (leaves_asked g.D.Disk.honest g.D.Disk.history g.D.Disk.failures _ _ now new (g.W.Sink.failed c.loop-block.writer) (Ok x) c.in_ok-block.ensures.asks left.runs c.in_ok-block.ensures.holds c.in_ok-block.ensures.whole
-    (λ h is. bad_block (as_seen g.D.Disk.history now.engine) now.engine.layout now.engine.checkpoint.base now.engine.log c.loop-block.index (Ok x) (λ past. c.in_ok-block.ensures.behind past left.runs) (c.in_ok-block.ensures.spelled h) is)))
+    leaves_given g.D.Disk old new _ _ x tt (leaves_then g.D.Disk old now new (g.W.Sink.failed c.args.writer.now) (g.W.Sink.failed c.loop-block.writer) (g.W.Sink.failed c.loop-block.writer) tt (Ok x) left
+    (leaves_asked g.D.Disk _ now new (g.W.Sink.failed c.loop-block.writer) (Ok x) c.in_ok-block.ensures.asks left.runs c.in_ok-block.ensures.holds c.in_ok-block.ensures.whole
+    (λ h is. bad_block (as_seen g.D.Disk now.engine) now.engine.layout now.engine.checkpoint.base now.engine.log c.loop-block.index (Ok x) (λ past. c.in_ok-block.ensures.behind past left.runs) (c.in_ok-block.ensures.spelled h) is)))
 
 pub returns-clause-writes : goal.returns-clause-writes
 returns-clause-writes g c =
-    wrote_all_blocks g.D.Disk.honest g.D.Disk.history g.D.Disk.failures c.args.replica.now c.args.position c.loop-block.index (g.W.Sink.contents c.args.writer.now) (g.W.Sink.contents c.loop-block.writer) c.requires c.loop-block.invariant.written
-    (past_first g.D.Disk.honest g.D.Disk.history g.D.Disk.failures c.args.replica.now c.loop-block.replica c.loop-block.invariant.leaves.reads c.loop-block.index c.in_ok-block.field-0 c.in_default.is c.in_ok-block.ensures.none)
+    wrote_all_blocks g.D.Disk c.args.replica.now c.args.position c.loop-block.index (g.W.Sink.contents c.args.writer.now) (g.W.Sink.contents c.loop-block.writer) c.requires c.loop-block.invariant.written
+    (past_first g.D.Disk c.args.replica.now c.loop-block.replica c.loop-block.invariant.leaves.reads c.loop-block.index c.in_ok-block.field-0 c.in_default.is c.in_ok-block.ensures.none)
 
 pub returns-in_err-block-clause-asked : goal.returns-in_err-block-clause-asked
 returns-in_err-block-clause-asked g c =

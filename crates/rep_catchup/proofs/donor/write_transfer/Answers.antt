@@ -13,8 +13,8 @@ pub returns-in_err-position-clause-leaves : goal.returns-in_err-position-clause-
 returns-in_err-position-clause-leaves g c =
     let p = err_from_is_err_and c.from_residual-in_err-position.result c.from_residual-in_err-position.ensures.1 in
     let old = c.args.replica.now in
-    rw (p.1, p.2) (leaves_then g.D.Disk.honest g.D.Disk.history g.D.Disk.failures old old c.write_base.new.replica _ _ _ tt (Err c.in_err-position.field-0.0)
-    (leaves_noted g.D.Disk.honest g.D.Disk.history g.D.Disk.failures old (g.W.Sink.failed c.args.writer.now) (g.W.Sink.failed c.write_header.new.writer) tt c.in_ok-write_header.ensures.notes c.requires.running) c.in_err-position.ensures.leaves)
+    rw (p.1, p.2) (leaves_then g.D.Disk old old c.write_base.new.replica _ _ _ tt (Err c.in_err-position.field-0.0)
+    (leaves_noted g.D.Disk old (g.W.Sink.failed c.args.writer.now) (g.W.Sink.failed c.write_header.new.writer) tt c.in_ok-write_header.ensures.notes c.requires.running) c.in_err-position.ensures.leaves)
 
 pub returns-in_err-write_tail-clause-leaves : goal.returns-in_err-write_tail-clause-leaves
 returns-in_err-write_tail-clause-leaves g c =
@@ -22,9 +22,9 @@ returns-in_err-write_tail-clause-leaves g c =
     let e = c.in_err-write_tail.field-0.0 in
     let old = c.args.replica.now in
     let base = c.write_base.new.replica in
-    let begun = leaves_noted g.D.Disk.honest g.D.Disk.history g.D.Disk.failures old (g.W.Sink.failed c.args.writer.now) (g.W.Sink.failed c.write_header.new.writer) tt c.in_ok-write_header.ensures.notes c.requires.running in
-    let based = leaves_then g.D.Disk.honest g.D.Disk.history g.D.Disk.failures old old base (g.W.Sink.failed c.args.writer.now) (g.W.Sink.failed c.write_header.new.writer) (g.W.Sink.failed c.write_base.new.writer) tt (Ok c.in_ok-position.position) begun c.in_ok-position.ensures.leaves in
-    rw (p.1, p.2) (leaves_passed g.D.Disk.honest g.D.Disk.history g.D.Disk.failures old c.write_tail.new.replica _ _ e (leaves_then g.D.Disk.honest g.D.Disk.history g.D.Disk.failures old base c.write_tail.new.replica _ _ _ c.in_ok-position.position (Err e) based c.in_err-write_tail.ensures.leaves))
+    let begun = leaves_noted g.D.Disk old (g.W.Sink.failed c.args.writer.now) (g.W.Sink.failed c.write_header.new.writer) tt c.in_ok-write_header.ensures.notes c.requires.running in
+    let based = leaves_then g.D.Disk old old base (g.W.Sink.failed c.args.writer.now) (g.W.Sink.failed c.write_header.new.writer) (g.W.Sink.failed c.write_base.new.writer) tt (Ok c.in_ok-position.position) begun c.in_ok-position.ensures.leaves in
+    rw (p.1, p.2) (leaves_passed g.D.Disk old c.write_tail.new.replica _ _ e (leaves_then g.D.Disk old base c.write_tail.new.replica _ _ _ c.in_ok-position.position (Err e) based c.in_err-write_tail.ensures.leaves))
 
 pub returns-in_err-write_end-clause-leaves : goal.returns-in_err-write_end-clause-leaves
 returns-in_err-write_end-clause-leaves g c =
@@ -32,23 +32,23 @@ returns-in_err-write_end-clause-leaves g c =
     let e = c.in_err-write_end.field-0.0 in
     let old = c.args.replica.now in
     let base = c.write_base.new.replica in
-    let begun = leaves_noted g.D.Disk.honest g.D.Disk.history g.D.Disk.failures old (g.W.Sink.failed c.args.writer.now) (g.W.Sink.failed c.write_header.new.writer) tt c.in_ok-write_header.ensures.notes c.requires.running in
-    let based = leaves_then g.D.Disk.honest g.D.Disk.history g.D.Disk.failures old old base (g.W.Sink.failed c.args.writer.now) (g.W.Sink.failed c.write_header.new.writer) (g.W.Sink.failed c.write_base.new.writer) tt (Ok c.in_ok-position.position) begun c.in_ok-position.ensures.leaves in
+    let begun = leaves_noted g.D.Disk old (g.W.Sink.failed c.args.writer.now) (g.W.Sink.failed c.write_header.new.writer) tt c.in_ok-write_header.ensures.notes c.requires.running in
+    let based = leaves_then g.D.Disk old old base (g.W.Sink.failed c.args.writer.now) (g.W.Sink.failed c.write_header.new.writer) (g.W.Sink.failed c.write_base.new.writer) tt (Ok c.in_ok-position.position) begun c.in_ok-position.ensures.leaves in
     let new = c.write_tail.new.replica in
-    let told = leaves_then g.D.Disk.honest g.D.Disk.history g.D.Disk.failures old base new (g.W.Sink.failed c.args.writer.now) (g.W.Sink.failed c.write_base.new.writer) (g.W.Sink.failed c.write_tail.new.writer) c.in_ok-position.position (Ok c.in_ok-write_tail.field-0) based c.in_ok-write_tail.ensures.leaves in
-    rw (p.1, p.2) (leaves_passed g.D.Disk.honest g.D.Disk.history g.D.Disk.failures old new _ _ e (leaves_then g.D.Disk.honest g.D.Disk.history g.D.Disk.failures old new new _ _ _ c.in_ok-write_tail.field-0 (Err e) told
-    (leaves_cut g.D.Disk.honest g.D.Disk.history g.D.Disk.failures new _ _ e c.in_err-write_end.ensures.written.refused c.in_err-write_end.ensures.notes)))
+    let told = leaves_then g.D.Disk old base new (g.W.Sink.failed c.args.writer.now) (g.W.Sink.failed c.write_base.new.writer) (g.W.Sink.failed c.write_tail.new.writer) c.in_ok-position.position (Ok c.in_ok-write_tail.field-0) based c.in_ok-write_tail.ensures.leaves in
+    rw (p.1, p.2) (leaves_passed g.D.Disk old new _ _ e (leaves_then g.D.Disk old new new _ _ _ c.in_ok-write_tail.field-0 (Err e) told
+    (leaves_cut g.D.Disk new _ _ e c.in_err-write_end.ensures.written.refused c.in_err-write_end.ensures.notes)))
 
 pub returns-clause-leaves : goal.returns-clause-leaves
 returns-clause-leaves g c =
     let old = c.args.replica.now in
     let base = c.write_base.new.replica in
-    let begun = leaves_noted g.D.Disk.honest g.D.Disk.history g.D.Disk.failures old (g.W.Sink.failed c.args.writer.now) (g.W.Sink.failed c.write_header.new.writer) tt c.in_ok-write_header.ensures.notes c.requires.running in
-    let based = leaves_then g.D.Disk.honest g.D.Disk.history g.D.Disk.failures old old base (g.W.Sink.failed c.args.writer.now) (g.W.Sink.failed c.write_header.new.writer) (g.W.Sink.failed c.write_base.new.writer) tt (Ok c.in_ok-position.position) begun c.in_ok-position.ensures.leaves in
+    let begun = leaves_noted g.D.Disk old (g.W.Sink.failed c.args.writer.now) (g.W.Sink.failed c.write_header.new.writer) tt c.in_ok-write_header.ensures.notes c.requires.running in
+    let based = leaves_then g.D.Disk old old base (g.W.Sink.failed c.args.writer.now) (g.W.Sink.failed c.write_header.new.writer) (g.W.Sink.failed c.write_base.new.writer) tt (Ok c.in_ok-position.position) begun c.in_ok-position.ensures.leaves in
     let new = c.write_tail.new.replica in
-    let told = leaves_then g.D.Disk.honest g.D.Disk.history g.D.Disk.failures old base new (g.W.Sink.failed c.args.writer.now) (g.W.Sink.failed c.write_base.new.writer) (g.W.Sink.failed c.write_tail.new.writer) c.in_ok-position.position (Ok c.in_ok-write_tail.field-0) based c.in_ok-write_tail.ensures.leaves in
+    let told = leaves_then g.D.Disk old base new (g.W.Sink.failed c.args.writer.now) (g.W.Sink.failed c.write_base.new.writer) (g.W.Sink.failed c.write_tail.new.writer) c.in_ok-position.position (Ok c.in_ok-write_tail.field-0) based c.in_ok-write_tail.ensures.leaves in
     let last = c.durable-last.result in
-    leaves_then g.D.Disk.honest g.D.Disk.history g.D.Disk.failures old new new _ _ _ c.in_ok-write_tail.field-0 (Ok last) told (leaves_noted g.D.Disk.honest g.D.Disk.history g.D.Disk.failures new (g.W.Sink.failed c.write_tail.new.writer) (g.W.Sink.failed c.write_end.new.writer) last
+    leaves_then g.D.Disk old new new _ _ _ c.in_ok-write_tail.field-0 (Ok last) told (leaves_noted g.D.Disk new (g.W.Sink.failed c.write_tail.new.writer) (g.W.Sink.failed c.write_end.new.writer) last
     (record { fault = λ is. absurd cc; fine = λ other. c.in_ok-write_end.ensures.notes.fine (λ is. absurd cc) }) told.runs)
 
 pub returns-in_err-write_header-clause-cut : goal.returns-in_err-write_header-clause-cut
@@ -88,8 +88,8 @@ returns-in_err-write_tail-clause-cut g c =
     let e = c.in_err-write_tail.field-0.0 in
     let left = c.in_ok-position.ensures.leaves in
     let (s, base, known, based) = c.in_ok-position.ensures.writes.done in
-    let tail = blocks_before g.D.Disk.honest g.D.Disk.history g.D.Disk.failures old c.write_base.new.replica c.in_ok-position.position (g.W.Sink.contents c.write_base.new.writer) (g.W.Sink.contents c.write_tail.new.writer) (Err e) left.reads
-    (λ n h. still_holds g.D.Disk.honest g.D.Disk.history g.D.Disk.failures old c.write_base.new.replica _ _ c.in_ok-position.position n left h) c.in_err-write_tail.ensures.writes in
+    let tail = blocks_before g.D.Disk old c.write_base.new.replica c.in_ok-position.position (g.W.Sink.contents c.write_base.new.writer) (g.W.Sink.contents c.write_tail.new.writer) (Err e) left.reads
+    (λ n h. still_holds g.D.Disk old c.write_base.new.replica _ _ c.in_ok-position.position n left h) c.in_err-write_tail.ensures.writes in
     rw p.1 (cut_in_tail b old.engine.log c.args.have.now header (c.write_header.ensures.form not_nil) refl c.uuid.ensures shape last c.durable-last.ensures.durable small (g.W.Sink.contents c.args.writer.now) (g.W.Sink.contents c.write_header.new.writer) (c.in_ok-write_header.ensures.written not_nil).done s c.in_ok-position.position (g.W.Sink.contents c.write_base.new.writer) base known.is_behind based (g.W.Sink.contents c.write_tail.new.writer) tail.cut)
 
 pub returns-in_err-write_end-clause-cut : goal.returns-in_err-write_end-clause-cut
@@ -104,8 +104,8 @@ returns-in_err-write_end-clause-cut g c =
     let small : last < 2 ^ 64 = omega arith in
     let left = c.in_ok-position.ensures.leaves in
     let (s, base, known, based) = c.in_ok-position.ensures.writes.done in
-    let (blocks, are, knows, tailed) = (blocks_before g.D.Disk.honest g.D.Disk.history g.D.Disk.failures old c.write_base.new.replica c.in_ok-position.position (g.W.Sink.contents c.write_base.new.writer) (g.W.Sink.contents c.write_tail.new.writer) (Ok c.in_ok-write_tail.field-0) left.reads
-    (λ n h. still_holds g.D.Disk.honest g.D.Disk.history g.D.Disk.failures old c.write_base.new.replica _ _ c.in_ok-position.position n left h) c.in_ok-write_tail.ensures.writes).done in
+    let (blocks, are, knows, tailed) = (blocks_before g.D.Disk old c.write_base.new.replica c.in_ok-position.position (g.W.Sink.contents c.write_base.new.writer) (g.W.Sink.contents c.write_tail.new.writer) (Ok c.in_ok-write_tail.field-0) left.reads
+    (λ n h. still_holds g.D.Disk old c.write_base.new.replica _ _ c.in_ok-position.position n left h) c.in_ok-write_tail.ensures.writes).done in
     rw p.1 (cut_in_end b old.engine.log c.args.have.now header (c.write_header.ensures.form not_nil) refl c.uuid.ensures shape last c.durable-last.ensures.durable small (g.W.Sink.contents c.args.writer.now) (g.W.Sink.contents c.write_header.new.writer) (c.in_ok-write_header.ensures.written not_nil).done s c.in_ok-position.position (g.W.Sink.contents c.write_base.new.writer) base known.is_behind based blocks (g.W.Sink.contents c.write_tail.new.writer) are tailed (g.W.Sink.contents c.write_end.new.writer)
     c.in_err-write_end.field-0.0 c.in_err-write_end.ensures.written)
 
@@ -120,11 +120,11 @@ returns-clause-donates g c =
     let small : last < 2 ^ 64 = omega arith in
     let left = c.in_ok-position.ensures.leaves in
     let (s, base, known, based) = c.in_ok-position.ensures.writes.done in
-    let (blocks, are, knows, tailed) = (blocks_before g.D.Disk.honest g.D.Disk.history g.D.Disk.failures old c.write_base.new.replica c.in_ok-position.position (g.W.Sink.contents c.write_base.new.writer) (g.W.Sink.contents c.write_tail.new.writer) (Ok c.in_ok-write_tail.field-0) left.reads
-    (λ n h. still_holds g.D.Disk.honest g.D.Disk.history g.D.Disk.failures old c.write_base.new.replica _ _ c.in_ok-position.position n left h) c.in_ok-write_tail.ensures.writes).done in
+    let (blocks, are, knows, tailed) = (blocks_before g.D.Disk old c.write_base.new.replica c.in_ok-position.position (g.W.Sink.contents c.write_base.new.writer) (g.W.Sink.contents c.write_tail.new.writer) (Ok c.in_ok-write_tail.field-0) left.reads
+    (λ n h. still_holds g.D.Disk old c.write_base.new.replica _ _ c.in_ok-position.position n left h) c.in_ok-write_tail.ensures.writes).done in
     donates b old.engine.log c.args.have.now header (c.write_header.ensures.form not_nil) refl c.uuid.ensures shape last c.durable-last.ensures.durable small (g.W.Sink.contents c.args.writer.now) (g.W.Sink.contents c.write_header.new.writer) (c.in_ok-write_header.ensures.written not_nil).done s c.in_ok-position.position (g.W.Sink.contents c.write_base.new.writer) base known.is_behind based blocks (g.W.Sink.contents c.write_tail.new.writer) are tailed
-    g.D.Disk.honest g.D.Disk.history g.D.Disk.failures old (g.W.Sink.contents c.write_end.new.writer) refl refl c.in_ok-write_end.ensures.written.done (λ h. (base_there g.D.Disk.honest g.D.Disk.history g.D.Disk.failures old s known.snapshot h, knows.there h))
-    (λ n h. donated_of_node g.D.Disk.honest g.D.Disk.history g.D.Disk.failures n old h c.args.have.now header refl c.uuid.ensures shape s base.1 (base_of_node g.D.Disk.honest g.D.Disk.history g.D.Disk.failures old s known.snapshot n h) blocks (knows.of_node n h) last c.durable-last.ensures.durable (all_parts b old.engine.log c.args.have.now header (c.write_header.ensures.form not_nil) refl c.uuid.ensures shape last c.durable-last.ensures.durable small s blocks base are).is_transfer)
+    g.D.Disk old (g.W.Sink.contents c.write_end.new.writer) refl refl c.in_ok-write_end.ensures.written.done (λ h. (base_there g.D.Disk old s known.snapshot h, knows.there h))
+    (λ n h. donated_of_node g.D.Disk n old h c.args.have.now header refl c.uuid.ensures shape s base.1 (base_of_node g.D.Disk old s known.snapshot n h) blocks (knows.of_node n h) last c.durable-last.ensures.durable (all_parts b old.engine.log c.args.have.now header (c.write_header.ensures.form not_nil) refl c.uuid.ensures shape last c.durable-last.ensures.durable small s blocks base are).is_transfer)
 
 pub returns-in_err-write_header-clause-asked : goal.returns-in_err-write_header-clause-asked
 returns-in_err-write_header-clause-asked g c =

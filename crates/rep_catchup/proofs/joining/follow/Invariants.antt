@@ -13,9 +13,9 @@ invariant-loop-part g l = record {
   running : IsRunning l.replica;
   same : g.D.Disk.failures l.replica.engine.disk ≡ g.D.Disk.failures l.initial.replica.engine.disk;
   noted : g.R.Source.failed l.reader ≡ g.R.Source.failed l.initial.reader;
-  defined : IsNil (facts_of g.D.Disk.failures l.replica).uuid → ⊥;
-  followed : Followed g.D.Disk.honest g.D.Disk.history g.D.Disk.failures l.initial.replica l.replica l.initial.transfer l.transfer (g.R.Source.remaining l.initial.reader) (g.R.Source.remaining l.reader) None;
+  defined : IsNil (facts_of g.D.Disk l.replica).uuid → ⊥;
+  followed : Followed g.D.Disk l.initial.replica l.replica l.initial.transfer l.transfer (g.R.Source.remaining l.initial.reader) (g.R.Source.remaining l.reader) None;
 }
 
 abbrev pub decreases-loop-part : goal.decreases-loop-part
-decreases-loop-part g l = MAX_SEQNO - delivered (facts_of g.D.Disk.failures l.replica)
+decreases-loop-part g l = MAX_SEQNO - delivered (facts_of g.D.Disk l.replica)

@@ -3,13 +3,13 @@ use Rattle.rep_catchup.proofs.JoinTelling.{tells_malformed}
 use Rattle.rep_catchup.proofs.joining.take_part.Goals as goal
 
 pub returns-in-Snapshot-clause-kept : goal.returns-in-Snapshot-clause-kept
-returns-in-Snapshot-clause-kept g c = grown_none c.history_by_items.ensures g.D.Disk.honest g.D.Disk.history g.D.Disk.failures c.runs_are_joined.ensures c.args.replica.now
+returns-in-Snapshot-clause-kept g c = grown_none c.history_by_items.ensures g.D.Disk c.runs_are_joined.ensures c.args.replica.now
 
 pub returns-in-Snapshot-2-clause-kept : goal.returns-in-Snapshot-2-clause-kept
-returns-in-Snapshot-2-clause-kept g c = grown_none c.history_by_items.ensures g.D.Disk.honest g.D.Disk.history g.D.Disk.failures c.runs_are_joined.ensures c.args.replica.now
+returns-in-Snapshot-2-clause-kept g c = grown_none c.history_by_items.ensures g.D.Disk c.runs_are_joined.ensures c.args.replica.now
 
 pub returns-in-Snapshot-clause-tells : goal.returns-in-Snapshot-clause-tells
-returns-in-Snapshot-clause-tells g c = tells_malformed g.D.Disk.honest g.D.Disk.history g.D.Disk.failures c.args.replica.now c.args.at
+returns-in-Snapshot-clause-tells g c = tells_malformed g.D.Disk c.args.replica.now c.args.at
 
 pub returns-in-Snapshot-2-clause-tells : goal.returns-in-Snapshot-2-clause-tells
-returns-in-Snapshot-2-clause-tells g c = tells_malformed g.D.Disk.honest g.D.Disk.history g.D.Disk.failures c.args.replica.now c.args.at
+returns-in-Snapshot-2-clause-tells g c = tells_malformed g.D.Disk c.args.replica.now c.args.at

@@ -22,9 +22,9 @@ returns-in-Ok-None-clause-cut g c =
     let small : c.taken-at.result < 2 ^ 64 = search rules in
     let same : c.taken-at.result ≡ start = c.taken-at.ensures in
     let none = none_found PartFits part_bytes before (g.R.Source.remaining c.next_part.new.reader) c.in-Ok-None.field-0 c.next_part.result c.in-Ok-None.is c.in-Ok-None.field-0-is c.next_part.ensures.known in
-    subst (λ k. CutShort g.D.Disk.honest g.D.Disk.history g.D.Disk.failures c.args.replica c.args.replica c.args.header.now.format c.args.header.now.uuid before start (Malformed k)) (sym same)
-    (short_none g.D.Disk.honest g.D.Disk.history g.D.Disk.failures c.history_by_items.ensures c.runs_are_joined.ensures c.args.replica c.args.header.now.format c.args.header.now.uuid start before (Malformed start) (counted_small start (omega (arith, small, same)))
-    (ends_at_none g.D.Disk.honest g.D.Disk.history g.D.Disk.failures c.args.replica start before none) (λ k is. no_snapshot_stands g.D.Disk.honest g.D.Disk.history g.D.Disk.failures c.args.header.now.format (facts_of g.D.Disk.failures c.args.replica) before none))
+    subst (λ k. CutShort g.D.Disk c.args.replica c.args.replica c.args.header.now.format c.args.header.now.uuid before start (Malformed k)) (sym same)
+    (short_none g.D.Disk c.history_by_items.ensures c.runs_are_joined.ensures c.args.replica c.args.header.now.format c.args.header.now.uuid start before (Malformed start) (counted_small start (omega (arith, small, same)))
+    (ends_at_none g.D.Disk c.args.replica start before none) (λ k is. no_snapshot_stands g.D.Disk c.args.header.now.format (facts_of g.D.Disk c.args.replica) before none))
 
 pub returns-in-Err-clause-cut : goal.returns-in-Err-clause-cut
 returns-in-Err-clause-cut g c =
@@ -32,7 +32,7 @@ returns-in-Err-clause-cut g c =
     let start = c.args.transfer.now in
     let small : c.taken-at.result < 2 ^ 64 = search rules in
     let same : c.taken-at.result ≡ start = c.taken-at.ensures in
-    short_none g.D.Disk.honest g.D.Disk.history g.D.Disk.failures c.history_by_items.ensures c.runs_are_joined.ensures c.args.replica c.args.header.now.format c.args.header.now.uuid start before c.in-Err.refusal (counted_small start (omega (arith, small, same)))
+    short_none g.D.Disk c.history_by_items.ensures c.runs_are_joined.ensures c.args.replica c.args.header.now.format c.args.header.now.uuid start before c.in-Err.refusal (counted_small start (omega (arith, small, same)))
     (inl c.in-Err.ensures.refused) (λ k is. absurd (let never : Malformed k ≡ StreamFault = sym is ∙ c.in-Err.ensures.refused in cc))
 
 -- ---- a snapshot
@@ -43,7 +43,7 @@ returns-in-Snapshot-clause-taken g c =
     let before = g.R.Source.remaining c.args.reader.now in
     let mid = g.R.Source.remaining c.next_part.new.reader in
     let is : c.next_part.result ≡ Ok (Some (Snapshot position)) = c.in-Ok-Some.is ∙ ap Ok c.in-Ok-Some.field-0-is ∙ ap (λ (p : Part). Ok (Some p)) c.in-Snapshot.is in
-    all_behind g.D.Disk.honest g.D.Disk.history g.D.Disk.failures c.args.replica c.take_snapshot.result.0 c.args.header.now.format c.args.header.now.uuid (part_bytes (Snapshot position)) before mid (g.R.Source.remaining c.take_snapshot.new.reader) c.take_snapshot.result.1
+    all_behind g.D.Disk c.args.replica c.take_snapshot.result.0 c.args.header.now.format c.args.header.now.uuid (part_bytes (Snapshot position)) before mid (g.R.Source.remaining c.take_snapshot.new.reader) c.take_snapshot.result.1
     (consumed PartFits part_bytes before mid (Snapshot position) c.next_part.result is c.next_part.ensures.known) c.take_snapshot.ensures.taken
 
 pub returns-in-Snapshot-clause-cut : goal.returns-in-Snapshot-clause-cut
@@ -52,7 +52,7 @@ returns-in-Snapshot-clause-cut g c =
     let before = g.R.Source.remaining c.args.reader.now in
     let mid = g.R.Source.remaining c.next_part.new.reader in
     let is : c.next_part.result ≡ Ok (Some (Snapshot position)) = c.in-Ok-Some.is ∙ ap Ok c.in-Ok-Some.field-0-is ∙ ap (λ (p : Part). Ok (Some p)) c.in-Snapshot.is in
-    subst (λ k. IfErr c.take_snapshot.result.1 (CutShort g.D.Disk.honest g.D.Disk.history g.D.Disk.failures c.args.replica c.take_snapshot.result.0 c.args.header.now.format c.args.header.now.uuid before k)) c.taken-at.ensures
+    subst (λ k. IfErr c.take_snapshot.result.1 (CutShort g.D.Disk c.args.replica c.take_snapshot.result.0 c.args.header.now.format c.args.header.now.uuid before k)) c.taken-at.ensures
     (c.take_snapshot.ensures.cut before (consumed PartFits part_bytes before mid (Snapshot position) c.next_part.result is c.next_part.ensures.known))
 
 -- ---- records alone
@@ -66,21 +66,21 @@ returns g c =
     let taken = consumed PartFits part_bytes before mid part c.next_part.result is c.next_part.ensures.known in
     record {
       taken =
-          no_snapshot g.D.Disk.honest g.D.Disk.history g.D.Disk.failures c.args.replica c.follow_from-followed.new.replica c.args.header.now.format c.args.header.now.uuid (part_bytes part) before mid (g.R.Source.remaining c.follow_from-followed.new.reader)
+          no_snapshot g.D.Disk c.args.replica c.follow_from-followed.new.replica c.args.header.now.format c.args.header.now.uuid (part_bytes part) before mid (g.R.Source.remaining c.follow_from-followed.new.reader)
           c.follow_from-followed.result taken c.requires.cluster c.follow_from-followed.ensures.defined c.follow_from-followed.ensures.followed;
       ends = c.follow_from-followed.ensures.ends;
       notes = notes_then (c.next_part.ensures.notes.fine (λ fault. let never : Ok (Some part) ≡ Err StreamFault = sym is ∙ fault in cc)) c.follow_from-followed.ensures.notes;
       tells = c.follow_from-followed.ensures.tells;
       cut =
-          subst (λ k. IfErr c.follow_from-followed.result (CutShort g.D.Disk.honest g.D.Disk.history g.D.Disk.failures c.args.replica c.follow_from-followed.new.replica c.args.header.now.format c.args.header.now.uuid before k)) c.taken-at.ensures
-          (short_records_on g.D.Disk.honest g.D.Disk.history g.D.Disk.failures c.args.replica c.follow_from-followed.new.replica c.args.header.now.format c.args.header.now.uuid c.taken-at.result before c.follow_from-followed.result (c.follow_from-followed.ensures.cut before taken)
-          (no_front g.D.Disk.honest g.D.Disk.history g.D.Disk.failures c.args.header.now.format (facts_of g.D.Disk.failures c.args.replica) part before mid (found_fits PartFits part c.next_part.result is c.next_part.ensures.fits) taken c.in_default.not-Snapshot));
+          subst (λ k. IfErr c.follow_from-followed.result (CutShort g.D.Disk c.args.replica c.follow_from-followed.new.replica c.args.header.now.format c.args.header.now.uuid before k)) c.taken-at.ensures
+          (short_records_on g.D.Disk c.args.replica c.follow_from-followed.new.replica c.args.header.now.format c.args.header.now.uuid c.taken-at.result before c.follow_from-followed.result (c.follow_from-followed.ensures.cut before taken)
+          (no_front g.D.Disk c.args.header.now.format (facts_of g.D.Disk c.args.replica) part before mid (found_fits PartFits part c.next_part.result is c.next_part.ensures.fits) taken c.in_default.not-Snapshot));
     }
 
 -- ---- what is told of the device
 
 pub returns-in-Ok-None-clause-tells : goal.returns-in-Ok-None-clause-tells
-returns-in-Ok-None-clause-tells g c = tells_malformed g.D.Disk.honest g.D.Disk.history g.D.Disk.failures c.args.replica c.taken-at.result
+returns-in-Ok-None-clause-tells g c = tells_malformed g.D.Disk c.args.replica c.taken-at.result
 
 pub returns-in-Err-clause-tells : goal.returns-in-Err-clause-tells
-returns-in-Err-clause-tells g c = tells_stream g.D.Disk.honest g.D.Disk.history g.D.Disk.failures c.args.replica c.in-Err.refusal c.in-Err.ensures.refused
+returns-in-Err-clause-tells g c = tells_stream g.D.Disk c.args.replica c.in-Err.refusal c.in-Err.ensures.refused

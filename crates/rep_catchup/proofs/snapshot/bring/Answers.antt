@@ -1,5 +1,4 @@
-use Rattle.std.proofs.Common.{rules, ◌≡◌, Ok, Err, ap, inl, sym, subst, ◌∙◌}
-use Rattle.rep_types.specs.declared.refusal.Refusal.TheVariants.{StreamFault}
+use Rattle.std.proofs.Common.{rules, ◌≡◌, Err, ap, inl, sym, subst, ◌∙◌}
 use Rattle.rep_checkpoint.specs.Coming.{blank}
 use Rattle.rep_engine.specs.Engines.{Engine}
 use Rattle.rep_replica.specs.Replicas.{Replica}
@@ -16,7 +15,7 @@ take_pages-requires-clause-none g c = none_came c.args.replica.engine.checkpoint
 pub returns-in-Ok-take_pages : goal.returns-in-Ok-take_pages
 returns-in-Ok-take_pages g c =
     let took = c.in-Ok-take_pages.ensures.taken in
-    let all = brought_on g.D.Disk.honest g.D.Disk.history g.D.Disk.failures c.args.replica c.end.result.0 c.in-Ok-install.installation c.take_pages.new.installation c.args.header.now.format c.args.header.now.uuid c.args.position c.in-Ok.taken.0 c.in-Ok.taken.1
+    let all = brought_on g.D.Disk c.args.replica c.end.result.0 c.in-Ok-install.installation c.take_pages.new.installation c.args.header.now.format c.args.header.now.uuid c.args.position c.in-Ok.taken.0 c.in-Ok.taken.1
     c.args.transfer.now c.take_window.new.transfer c.take_pages.new.transfer (g.R.Source.remaining c.args.reader.now) (g.R.Source.remaining c.take_window.new.reader) (g.R.Source.remaining c.take_pages.new.reader) c.in-Ok.ensures.taken
     c.in-Ok-install.ensures.begun c.requires.quiet took.0 took.1 took.2 c.requires.cluster c.args.at c.end.result.1 (c.end.ensures.lands took.2.running) (λ n holds. c.in-Ok-install.ensures.holds n holds) (λ n y h. c.end.ensures.installs n y h) in
     let same = ap (λ (e : Engine g.row.D.Denot). g.D.Disk.failures e.disk) c.in-Ok-install.ensures.begun.0 in
@@ -35,7 +34,7 @@ returns-in-Ok-take_pages g c =
 
 pub returns-in-Err-take_pages-clause-left : goal.returns-in-Err-take_pages-clause-left
 returns-in-Err-take_pages-clause-left g c =
-    inl (given_behind g.D.Disk.honest g.D.Disk.history g.D.Disk.failures c.args.replica c.in-Ok-install.installation c.take_pages.new.installation (blank c.args.position c.in-Ok.taken.0) c.in-Ok-install.ensures.begun.0
+    inl (given_behind g.D.Disk c.args.replica c.in-Ok-install.installation c.take_pages.new.installation (blank c.args.position c.in-Ok.taken.0) c.in-Ok-install.ensures.begun.0
     (λ n holds. c.in-Ok-install.ensures.holds n holds) (λ n z h. c.in-Err-take_pages.ensures.kept n z h) c.give_up.result c.give_up.ensures.replica (λ n z h. c.give_up.ensures.holds n z h))
 
 pub returns-in-Err-take_pages-clause-ends : goal.returns-in-Err-take_pages-clause-ends
@@ -43,13 +42,13 @@ returns-in-Err-take_pages-clause-ends g c = subst (λ (r : Replica g.row.D.Denot
 
 pub returns-in-Err-take_pages-clause-refused : goal.returns-in-Err-take_pages-clause-refused
 returns-in-Err-take_pages-clause-refused g c =
-    early_pages g.D.Disk.honest g.D.Disk.history g.D.Disk.failures c.args.replica c.give_up.result c.in-Ok-install.installation c.take_pages.new.installation c.args.header.now.format c.args.header.now.uuid c.args.position c.in-Ok.taken.0 c.in-Ok.taken.1
+    early_pages g.D.Disk c.args.replica c.give_up.result c.in-Ok-install.installation c.take_pages.new.installation c.args.header.now.format c.args.header.now.uuid c.args.position c.in-Ok.taken.0 c.in-Ok.taken.1
     c.args.transfer.now c.take_window.new.transfer c.take_pages.new.transfer (g.R.Source.remaining c.args.reader.now) (g.R.Source.remaining c.take_window.new.reader) (g.R.Source.remaining c.take_pages.new.reader) c.in-Ok.ensures.taken
     c.in-Ok-install.ensures.begun c.args.at c.in-Err-take_pages.refusal c.in-Err-take_pages.ensures.refused
 
 pub returns-in-Err-install-clause-left : goal.returns-in-Err-install-clause-left
 returns-in-Err-install-clause-left g c =
-    inl (subst (λ (r : Replica g.row.D.Denot). GivenUp g.D.Disk.honest g.D.Disk.history g.D.Disk.failures c.args.replica r) (sym c.in-Err-install.ensures.refused.0) (given_at_once g.D.Disk.honest g.D.Disk.history g.D.Disk.failures c.args.replica))
+    inl (subst (λ (r : Replica g.row.D.Denot). GivenUp g.D.Disk c.args.replica r) (sym c.in-Err-install.ensures.refused.0) (given_at_once g.D.Disk c.args.replica))
 
 -- ---- what is told of the device, where it isn't taken
 

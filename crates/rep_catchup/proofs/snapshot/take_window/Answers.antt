@@ -11,7 +11,7 @@ use Rattle.rep_catchup.proofs.snapshot.take_window.Goals as goal
 
 pub returns-in_err-window-clause-refused : goal.returns-in_err-window-clause-refused
 returns-in_err-window-clause-refused g c =
-    let s = facts_of g.D.Disk.failures c.args.replica.now in
+    let s = facts_of g.D.Disk c.args.replica.now in
     let p = err_from_is_err_and c.from_residual.result c.from_residual.ensures.1 in
     rw (p.1, p.2) (
     elim c.in_err-window.ensures.refused [
@@ -32,6 +32,6 @@ returns-in-None-clause-refused g c =
     let taken = subst (λ (p : Setting). TakesKept c.args.format p c.args.position c.in_ok-window.window c.args.transfer.now c.take_kept.new.transfer start before) c.params-params.ensures c.in_ok-window.ensures.taken in
     inr (inr (
       refl,
-      no_number c.args.format (facts_of g.D.Disk.failures c.args.replica.now) c.args.position c.in_ok-window.window c.args.transfer.now c.take_kept.new.transfer start before c.ranges.position.fits taken
+      no_number c.args.format (facts_of g.D.Disk c.args.replica.now) c.args.position c.in_ok-window.window c.args.transfer.now c.take_kept.new.transfer start before c.ranges.position.fits taken
           (none_found (λ n. n < 2 ^ 16) (number_bytes 2) before (g.R.Source.remaining c.next.new.reader) c.in_ok-count.field-0 c.next.result c.in_ok-count.was c.in-None.is c.next.ensures.known),
     ))

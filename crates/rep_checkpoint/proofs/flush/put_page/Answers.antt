@@ -12,8 +12,6 @@ use Rattle.rep_checkpoint.proofs.flush.put_page.Goals as goal
 
 pub returns-clause-puts : goal.returns-clause-puts
 returns-clause-puts g c =
-    let honest = g.D.Disk.honest in
-    let history = g.D.Disk.history in
     let l = layout_of c.args.cells.now in
     let number = c.args.page.now.number in
     let old = disk_of c.args.cells.now in
@@ -25,12 +23,12 @@ returns-clause-puts g c =
       bytes = c.in-Some.body.items;
       is_page = subst (λ rows. IsPageBody rows c.args.page.now c.in-Some.body.items) c.schema.ensures c.in-Some.ensures.bytes;
       size = c.in-Some.ensures.size;
-      written = subst (λ (r : Result (Unit {0}) Fault). WritesOnly honest history (offset_of l (Page number spare)) c.in-Some.body.items old new r) (sym c.refusal_of.ensures.fault)
-          (subst (λ (sl : Slot). WritesOnly honest history (offset_of l (Page number sl)) c.in-Some.body.items old new c.write_area.result) slot
-          (subst (λ (b : List ℕ). WritesOnly honest history (offset_of l (Page number c.spare_of-slot.result)) b old new c.write_area.result) bytes c.write_area.ensures.written));
-      inside = subst (λ (r : Result (Unit {0}) Fault). WritesIn honest history l (Page number spare) old new r) (sym c.refusal_of.ensures.fault)
-          (subst (λ (sl : Slot). WritesIn honest history l (Page number sl) old new c.write_area.result) slot c.write_area.ensures.inside);
-      states = subst (λ (r : Result (Unit {0}) Fault). StepsAt honest history l (Page number spare) (writing c.in-Some.body.items) old new r) (sym c.refusal_of.ensures.fault)
-          (subst (λ (sl : Slot). StepsAt honest history l (Page number sl) (writing c.in-Some.body.items) old new c.write_area.result) slot
-          (subst (λ (b : List ℕ). StepsAt honest history l (Page number c.spare_of-slot.result) (writing b) old new c.write_area.result) bytes c.write_area.ensures.states));
+      written = subst (λ (r : Result (Unit {0}) Fault). WritesOnly g.D.Disk (offset_of l (Page number spare)) c.in-Some.body.items old new r) (sym c.refusal_of.ensures.fault)
+          (subst (λ (sl : Slot). WritesOnly g.D.Disk (offset_of l (Page number sl)) c.in-Some.body.items old new c.write_area.result) slot
+          (subst (λ (b : List ℕ). WritesOnly g.D.Disk (offset_of l (Page number c.spare_of-slot.result)) b old new c.write_area.result) bytes c.write_area.ensures.written));
+      inside = subst (λ (r : Result (Unit {0}) Fault). WritesIn g.D.Disk l (Page number spare) old new r) (sym c.refusal_of.ensures.fault)
+          (subst (λ (sl : Slot). WritesIn g.D.Disk l (Page number sl) old new c.write_area.result) slot c.write_area.ensures.inside);
+      states = subst (λ (r : Result (Unit {0}) Fault). StepsAt g.D.Disk l (Page number spare) (writing c.in-Some.body.items) old new r) (sym c.refusal_of.ensures.fault)
+          (subst (λ (sl : Slot). StepsAt g.D.Disk l (Page number sl) (writing c.in-Some.body.items) old new c.write_area.result) slot
+          (subst (λ (b : List ℕ). StepsAt g.D.Disk l (Page number c.spare_of-slot.result) (writing b) old new c.write_area.result) bytes c.write_area.ensures.states));
     }

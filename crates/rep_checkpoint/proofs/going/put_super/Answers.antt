@@ -10,4 +10,4 @@ use Rattle.rep_checkpoint.proofs.going.put_super.Goals as goal
 pub returns-clause-states : goal.returns-clause-states
 returns-clause-states g c =
     let body = c.as_slice.ensures.value ∙ c.super_bytes-body.ensures.bytes ∙ ap (λ (n : Next). super_bytes n.super) c.next.view_is in
-    subst (λ (b : List ℕ). StepsAt g.D.Disk.honest g.D.Disk.history (layout_of c.args.cells.now) (Super c.args.side) (filling b) (disk_of c.args.cells.now) (disk_of c.fill.new.self) c.fill.result) body c.fill.ensures.states
+    subst (λ (b : List ℕ). StepsAt g.D.Disk (layout_of c.args.cells.now) (Super c.args.side) (filling b) (disk_of c.args.cells.now) (disk_of c.fill.new.self) c.fill.result) body c.fill.ensures.states

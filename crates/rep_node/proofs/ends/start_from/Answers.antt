@@ -25,9 +25,9 @@ items_are g c = search rules
 durable_is : (g : _) (c : After-push_reserved-3 g) → c.durable-position.result ≡ durable_of c.in-Ok.space.engine.log
 durable_is g c = rw c.get.ensures at c.durable-position.ensures.durable
 
-node_begins : (g : _) (c : After-push_reserved-3 g) → Begins g.D.Disk.honest g.D.Disk.history g.D.Disk.failures (start_of g c)
+node_begins : (g : _) (c : After-push_reserved-3 g) → Begins g.D.Disk (start_of g c)
 node_begins g c = let p = c.in-Ok-start.ensures.publisher in let r = c.requires.parts in let none : c.in-Ok.space.waiting ≡ [] = search rules in
-    begins g.D.Disk.honest g.D.Disk.history g.D.Disk.failures r.0 (start_of g c) c.durable-position.result r.1.parts r.1.works r.1.defined r.1.same_certifier r.1.same_backlog (c.in-Ok.ensures.engine ∙ r.1.same_engine) (durable_is g c)
+    begins g.D.Disk r.0 (start_of g c) c.durable-position.result r.1.parts r.1.works r.1.defined r.1.same_certifier r.1.same_backlog (c.in-Ok.ensures.engine ∙ r.1.same_engine) (durable_is g c)
     (ap (λ (l : Listing Origin). l.basis.certifier.log) p ∙ c.of-origin.ensures) (ap (λ (l : Listing Origin). l.start) p) (ap (λ (l : Listing Origin). l.list) p) none refl
 
 here : (g : _) (c : After-push_reserved-3 g) → c.durable-position.result ≡ position_of (start_of g c)
@@ -37,14 +37,14 @@ low : (g : _) (c : After-push_reserved-3 g) → c.durable-position.result ≤ MA
 low g c = let limit = c.durable-position.ensures.engine.limit in let is = c.durable-position.ensures.durable in omega arith
 
 pub new-requires-clause-names : goal.new-requires-clause-names
-new-requires-clause-names g c = all_name g.D.Disk.honest g.D.Disk.history g.D.Disk.failures (start_of g c) c.push_reserved-3.new.self.items (node_begins g c) (items_are g c)
+new-requires-clause-names g c = all_name g.D.Disk (start_of g c) c.push_reserved-3.new.self.items (node_begins g c) (items_are g c)
 
 pub new-requires-clause-values : goal.new-requires-clause-values
-new-requires-clause-values g c = all_meet g.D.Disk.honest g.D.Disk.history g.D.Disk.failures c.histories_go_on.ensures (start_of g c) c.durable-position.result c.push_reserved-3.new.self.items (node_begins g c) (here g c) (items_are g c)
+new-requires-clause-values g c = all_meet g.D.Disk c.histories_go_on.ensures (start_of g c) c.durable-position.result c.push_reserved-3.new.self.items (node_begins g c) (here g c) (items_are g c)
 
 pub invariant_of-seat : goal.invariant_of-seat
 invariant_of-seat g c = let at = (goal.at.invariant_of-seat g c).After-push_reserved-3 in
-    first_seat g.D.Disk.honest g.D.Disk.history g.D.Disk.failures (start_of g at) c.durable-position.result c.push_reserved-3.new.self.items c.in-Ok-new.lock c.in-Ok-new.seat (node_begins g at) (here g at) (low g at) (items_are g at) c.in-Ok-new.ensures.seat
+    first_seat g.D.Disk (start_of g at) c.durable-position.result c.push_reserved-3.new.self.items c.in-Ok-new.lock c.in-Ok-new.seat (node_begins g at) (here g at) (low g at) (items_are g at) c.in-Ok-new.ensures.seat
 
 pub values_of-certifier-requires : goal.values_of-certifier-requires
 values_of-certifier-requires g c = let at = (goal.at.values_of-certifier-requires g c).After-push_reserved-3 in (start_of g at, c.in-Err-new.ensures.refused ∙ items_are g at)

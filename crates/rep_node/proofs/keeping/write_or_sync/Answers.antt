@@ -7,12 +7,12 @@ use Rattle.rep_node.proofs.keeping.write_or_sync.Given.{Over}
 use Rattle.rep_node.proofs.keeping.write_or_sync.Goals.{Joined-log_step, in-Sync, in-Recycle}
 
 -- what the step leaves, whichever it was
-goes : (g : Over) (c : Joined-log_step g) → Goes g.D.Disk.honest g.D.Disk.history g.D.Disk.failures c.args.engine.now c.match-log_step.engine c.match-log_step.done
+goes : (g : Over) (c : Joined-log_step g) → Goes g.D.Disk c.args.engine.now c.match-log_step.engine c.match-log_step.done
 goes g c = elim c.match-log_step.branch [
-  | in-Sync w ↦ subst (λ (z : Engine g.row.D.Denot × Result (Unit {0}) Refusal). Goes g.D.Disk.honest g.D.Disk.history g.D.Disk.failures c.args.engine.now z.0 z.1) (λ i. (sym w.engine-is i, sym w.done-is i))
-      (goes_synced g.D.Disk.honest g.D.Disk.history g.D.Disk.failures c.taken_items_stay.ensures c.args.engine.now w.sync.new.self w.sync.result w.map-done.result _ w.map-done.ensures.variant w.map-done.ensures.cases c.durable-durable.ensures.engine w.sync.ensures.moves w.sync.ensures.steps w.sync.ensures.unchanged)
-  | in-Recycle w ↦ subst (λ (z : Engine g.row.D.Denot × Result (Unit {0}) Refusal). Goes g.D.Disk.honest g.D.Disk.history g.D.Disk.failures c.args.engine.now z.0 z.1) (λ i. (sym w.engine-is i, sym w.done-is i))
-      (goes_logged g.D.Disk.honest g.D.Disk.history g.D.Disk.failures c.taken_items_stay.ensures c.args.engine.now w.log-done.new.self w.log-done.result c.durable-durable.ensures.engine w.log-done.ensures.moves w.log-done.ensures.steps w.log-done.ensures.unchanged)
+  | in-Sync w ↦ subst (λ (z : Engine g.row.D.Denot × Result (Unit {0}) Refusal). Goes g.D.Disk c.args.engine.now z.0 z.1) (λ i. (sym w.engine-is i, sym w.done-is i))
+      (goes_synced g.D.Disk c.taken_items_stay.ensures c.args.engine.now w.sync.new.self w.sync.result w.map-done.result _ w.map-done.ensures.variant w.map-done.ensures.cases c.durable-durable.ensures.engine w.sync.ensures.moves w.sync.ensures.steps w.sync.ensures.unchanged)
+  | in-Recycle w ↦ subst (λ (z : Engine g.row.D.Denot × Result (Unit {0}) Refusal). Goes g.D.Disk c.args.engine.now z.0 z.1) (λ i. (sym w.engine-is i, sym w.done-is i))
+      (goes_logged g.D.Disk c.taken_items_stay.ensures c.args.engine.now w.log-done.new.self w.log-done.result c.durable-durable.ensures.engine w.log-done.ensures.moves w.log-done.ensures.steps w.log-done.ensures.unchanged)
 ]
 
 pub returns-in-Err-NotDue-clause-taken : goal.returns-in-Err-NotDue-clause-taken
@@ -23,8 +23,8 @@ returns-in_default g c = let h = goes g (goal.at.returns-in_default g c).Joined-
   taken = h.taken;
   rises = h.rises;
   base = h.base;
-  works = goes_working g.D.Disk.honest g.D.Disk.history g.D.Disk.failures c.args.engine.now c.match-log_step.engine c.match-log_step.done h;
-  full = goes_full g.D.Disk.honest g.D.Disk.history g.D.Disk.failures c.args.engine.now c.match-log_step.engine c.match-log_step.done h;
+  works = goes_working g.D.Disk c.args.engine.now c.match-log_step.engine c.match-log_step.done h;
+  full = goes_full g.D.Disk c.args.engine.now c.match-log_step.engine c.match-log_step.done h;
 }
 
 pub returns-in_default-2-clause-taken : goal.returns-in_default-2-clause-taken

@@ -20,7 +20,7 @@ pub returns-in-Err-clause-stopped : goal.returns-in-Err-clause-stopped
 returns-in-Err-clause-stopped g c stopped = absurd (not_both c.is_stopped.result _ c.is_stopped.ensures c.if-is_stopped.false stopped)
 
 pub returns-in-Err-clause-served : goal.returns-in-Err-clause-served
-returns-in-Err-clause-served g c running = refused_served g.D.Disk.honest g.D.Disk.history g.D.Disk.failures c.histories_lie_between_replicas.ensures c.histories_extend_the_order.ensures c.args.replica c.in-Err.replica c.args.items.now c.refused-in-Err.result.receipts.items c.refused-in-Err.result.end c.in-Err.refusal
+returns-in-Err-clause-served g c running = refused_served g.D.Disk c.histories_lie_between_replicas.ensures c.histories_extend_the_order.ensures c.args.replica c.in-Err.replica c.args.items.now c.refused-in-Err.result.receipts.items c.refused-in-Err.result.end c.in-Err.refusal
     c.durable-position.ensures.replica running c.requires.quiet c.in-Err.ensures.refused.0 c.refused-in-Err.ensures.0 c.refused-in-Err.ensures.1
 
 pub returns-in-Err-clause-ended : goal.returns-in-Err-clause-ended
@@ -36,7 +36,7 @@ pub returns-clause-stopped : goal.returns-clause-stopped
 returns-clause-stopped g c stopped = absurd (not_both c.is_stopped.result _ c.is_stopped.ensures c.if-is_stopped.false stopped)
 
 pub returns-clause-served : goal.returns-clause-served
-returns-clause-served g c running = served g.D.Disk.honest g.D.Disk.history g.D.Disk.failures c.histories_extend_the_order.ensures c.args.replica c.close.result c.args.items.now c.in-Ok.made.1.view c.serve-batch.new.seat.view c.in-Ok.made.2.items c.serve-batch.result.receipts.items c.serve-batch.result.end
+returns-clause-served g c running = served g.D.Disk c.histories_extend_the_order.ensures c.args.replica c.close.result c.args.items.now c.in-Ok.made.1.view c.serve-batch.new.seat.view c.in-Ok.made.2.items c.serve-batch.result.receipts.items c.serve-batch.result.end
     (ap (λ (z : View (Home g.row.D.Denot) Judged). z.start) c.in-Ok.ensures.view) (ap (λ (z : View (Home g.row.D.Denot) Judged). z.own) c.in-Ok.ensures.view) c.in-Ok.ensures.starts c.serve-batch.ensures.handed_in.went c.serve-batch.ensures.handed_in.batch c.serve-batch.ensures.handed_in.order c.serve-batch.ensures.handed_in.whole c.serve-batch.ensures.handed_in.ended c.close.ensures.ends
 
 pub returns-clause-ended : goal.returns-clause-ended

@@ -37,10 +37,10 @@ returns-in-Ok-clause-recovers g c = λ honest.
     let h : Holding = o.certifier.current in
     let is = c.in_ok-opened.ensures.opened in
     let there = subst (λ (l : Layout). IsOpened size b l o.log o.items.items h o.versions) is.layout is in
-    let all = opens_node g.D.Disk.honest g.D.Disk.history g.D.Disk.failures disk old size b o.both o.log o.items.items h o.versions there (c.in_ok-opened.ensures.recovers honest) c.the_base_is_found.ensures (c.in_ok-opened.ensures.call.stays_honest honest) c.openings_open_the_order.ensures c.nodes_leave_their_fronts.ensures c.images_read_as_allowed.ensures in
-    let laid = subst (λ (l : Layout). OpensNode g.D.Disk.honest g.D.Disk.history g.D.Disk.failures old (engine_of disk l b o.both o.log o.versions) h) (sym is.layout) all in
-    let made = subst (λ (e : Engine g.row.D.Denot). OpensNode g.D.Disk.honest g.D.Disk.history g.D.Disk.failures old e h) (sym c.start.ensures.engine) laid in
-    subst (λ (x : Holdings). OpensNode g.D.Disk.honest g.D.Disk.history g.D.Disk.failures old c.start.result.0 x.current) (sym c.start.ensures.certifier) made
+    let all = opens_node g.D.Disk disk old size b o.both o.log o.items.items h o.versions there (c.in_ok-opened.ensures.recovers honest) c.the_base_is_found.ensures (c.in_ok-opened.ensures.call.stays_honest honest) c.openings_open_the_order.ensures c.nodes_leave_their_fronts.ensures c.images_read_as_allowed.ensures in
+    let laid = subst (λ (l : Layout). OpensNode g.D.Disk old (engine_of disk l b o.both o.log o.versions) h) (sym is.layout) all in
+    let made = subst (λ (e : Engine g.row.D.Denot). OpensNode g.D.Disk old e h) (sym c.start.ensures.engine) laid in
+    subst (λ (x : Holdings). OpensNode g.D.Disk old c.start.result.0 x.current) (sym c.start.ensures.certifier) made
 
 pub returns-in-Ok-clause-opened : goal.returns-in-Ok-clause-opened
 returns-in-Ok-clause-opened g c =

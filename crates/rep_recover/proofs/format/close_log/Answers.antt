@@ -17,12 +17,12 @@ pub loop-cell-init : goal.loop-cell-init
 loop-cell-init g c = record {
   layout = refl;
   lap = ap (λ (k : Layout). k.cells) c.layout-layout.ensures;
-  goes = goes_nowhere g.D.Disk.size g.D.Disk.failures g.D.Disk.honest g.D.Disk.history (layout_of c.args.cells.now) (WillClose 0) (disk_of c.args.cells.now);
+  goes = goes_nowhere g.D.Disk (layout_of c.args.cells.now) (WillClose 0) (disk_of c.args.cells.now);
 }
 
 -- the cells so far and the one at hand are closed, where that succeeds
 abbrev Closes : (g : _) (c : After-close_gate g) → Result (Unit {0}) DiskFault → Type 0
-Closes g c result = Goes g.D.Disk.size g.D.Disk.failures g.D.Disk.honest g.D.Disk.history (layout_of c.args.cells.now) (WillClose 0) (WillClose (c.loop-cell.cell + 1)) (disk_of c.args.cells.now) (disk_of c.close_gate.new.self) result
+Closes g c result = Goes g.D.Disk (layout_of c.args.cells.now) (WillClose 0) (WillClose (c.loop-cell.cell + 1)) (disk_of c.args.cells.now) (disk_of c.close_gate.new.self) result
 
 closes : (g : _) (c : After-close_gate g) → Closes g c c.close_gate.result
 closes g c =
@@ -31,9 +31,9 @@ closes g c =
     let m : Layout = layout_of c.loop-cell.cells in
     let e = c.close_gate.ensures in
     let n : ℕ = c.loop-cell.cell in
-    let one = goes_by g.D.Disk.size g.D.Disk.failures g.D.Disk.honest g.D.Disk.history m (WillClose n) (WillClose (n + 1)) (Log n) closing (gate_of m (Log n)) (gate 0) (disk_of c.loop-cell.cells) (disk_of c.close_gate.new.self) _ e.call e.written
+    let one = goes_by g.D.Disk m (WillClose n) (WillClose (n + 1)) (Log n) closing (gate_of m (Log n)) (gate 0) (disk_of c.loop-cell.cells) (disk_of c.close_gate.new.self) _ e.call e.written
     (omega (arith, c.loop-cell-test.true, inv.lap, ap (λ (k : Layout). k.cells) inv.layout)) e.states (cell_closed c.syncs_narrow.ensures n) in
-    goes_on g.D.Disk.size g.D.Disk.failures g.D.Disk.honest g.D.Disk.history l (WillClose 0) (WillClose n) (WillClose (n + 1)) m (disk_of c.args.cells.now) (disk_of c.loop-cell.cells) (disk_of c.close_gate.new.self) _ _ inv.layout inv.goes one
+    goes_on g.D.Disk l (WillClose 0) (WillClose n) (WillClose (n + 1)) m (disk_of c.args.cells.now) (disk_of c.loop-cell.cells) (disk_of c.close_gate.new.self) _ _ inv.layout inv.goes one
 
 pub loop-cell-preserved : goal.loop-cell-preserved
 loop-cell-preserved g c =
@@ -48,5 +48,5 @@ pub returns-in_err-close_gate-clause-goes : goal.returns-in_err-close_gate-claus
 returns-in_err-close_gate-clause-goes g c =
     let at = (goal.at.returns-in_err-close_gate-clause-goes g c).After-close_gate in
     let l : Layout = layout_of c.args.cells.now in
-    goes_wrong g.D.Disk.size g.D.Disk.failures g.D.Disk.honest g.D.Disk.history l (WillClose 0) (WillClose (c.loop-cell.cell + 1)) (WillClose l.cells) (disk_of c.args.cells.now) (disk_of c.close_gate.new.self) _ c.from_residual.result refl c.from_residual.ensures.0
+    goes_wrong g.D.Disk l (WillClose 0) (WillClose (c.loop-cell.cell + 1)) (WillClose l.cells) (disk_of c.args.cells.now) (disk_of c.close_gate.new.self) _ c.from_residual.result refl c.from_residual.ensures.0
     (subst (Closes g at) c.in_err-close_gate.was (closes g at))

@@ -9,5 +9,5 @@ abbrev pub invariant-loop-cell : goal.invariant-loop-cell
 invariant-loop-cell g l = record {
   layout : layout_of l.cells ≡ layout_of l.initial.cells;
   lap : l.cell-end ≡ (layout_of l.initial.cells).cells;
-  goes : Goes {T = Unit {0}} g.D.Disk.size g.D.Disk.failures g.D.Disk.honest g.D.Disk.history (layout_of l.initial.cells) (WillClose 0) (WillClose l.cell) (disk_of l.initial.cells) (disk_of l.cells) (Ok tt);
+  goes : Goes {T = Unit {0}} g.D.Disk (layout_of l.initial.cells) (WillClose 0) (WillClose l.cell) (disk_of l.initial.cells) (disk_of l.cells) (Ok tt);
 }

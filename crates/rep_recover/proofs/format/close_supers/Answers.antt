@@ -15,8 +15,8 @@ pub returns-in_err-close_gate-clause-goes : goal.returns-in_err-close_gate-claus
 returns-in_err-close_gate-clause-goes g c =
     let l : Layout = layout_of c.args.cells.now in
     let e = c.in_err-close_gate.ensures in
-    let one = goes_by g.D.Disk.size g.D.Disk.failures g.D.Disk.honest g.D.Disk.history l (λ _. Unit {0}) FirstWillClose (Super A) closing (gate_of l (Super A)) (gate 0) (disk_of c.args.cells.now) (disk_of c.close_gate.new.self) _ e.call e.written (omega arith) e.states (first_closed c.syncs_narrow.ensures) in
-    goes_wrong g.D.Disk.size g.D.Disk.failures g.D.Disk.honest g.D.Disk.history l (λ _. Unit {0}) FirstWillClose (WillClose 0) (disk_of c.args.cells.now) (disk_of c.close_gate.new.self) _ c.from_residual.result refl c.from_residual.ensures.0 one
+    let one = goes_by g.D.Disk l (λ _. Unit {0}) FirstWillClose (Super A) closing (gate_of l (Super A)) (gate 0) (disk_of c.args.cells.now) (disk_of c.close_gate.new.self) _ e.call e.written (omega arith) e.states (first_closed c.syncs_narrow.ensures) in
+    goes_wrong g.D.Disk l (λ _. Unit {0}) FirstWillClose (WillClose 0) (disk_of c.args.cells.now) (disk_of c.close_gate.new.self) _ c.from_residual.result refl c.from_residual.ensures.0 one
 
 pub returns-clause-goes : goal.returns-clause-goes
 returns-clause-goes g c =
@@ -24,6 +24,6 @@ returns-clause-goes g c =
     let m : Layout = layout_of c.close_gate.new.self in
     let e = c.in_ok-close_gate.ensures in
     let f = c.close_gate-2.ensures in
-    let one = goes_by g.D.Disk.size g.D.Disk.failures g.D.Disk.honest g.D.Disk.history l (λ _. Unit {0}) FirstWillClose (Super A) closing (gate_of l (Super A)) (gate 0) (disk_of c.args.cells.now) (disk_of c.close_gate.new.self) _ e.call e.written (omega arith) e.states (first_closed c.syncs_narrow.ensures) in
-    let two = goes_by g.D.Disk.size g.D.Disk.failures g.D.Disk.honest g.D.Disk.history m FirstWillClose (WillClose 0) (Super B) closing (gate_of m (Super B)) (gate 0) (disk_of c.close_gate.new.self) (disk_of c.close_gate-2.new.self) c.close_gate-2.result f.call f.written (omega arith) f.states (second_closed c.syncs_narrow.ensures) in
-    goes_on g.D.Disk.size g.D.Disk.failures g.D.Disk.honest g.D.Disk.history l (λ _. Unit {0}) FirstWillClose (WillClose 0) m (disk_of c.args.cells.now) (disk_of c.close_gate.new.self) (disk_of c.close_gate-2.new.self) _ c.close_gate-2.result e.layout one two
+    let one = goes_by g.D.Disk l (λ _. Unit {0}) FirstWillClose (Super A) closing (gate_of l (Super A)) (gate 0) (disk_of c.args.cells.now) (disk_of c.close_gate.new.self) _ e.call e.written (omega arith) e.states (first_closed c.syncs_narrow.ensures) in
+    let two = goes_by g.D.Disk m FirstWillClose (WillClose 0) (Super B) closing (gate_of m (Super B)) (gate 0) (disk_of c.close_gate.new.self) (disk_of c.close_gate-2.new.self) c.close_gate-2.result f.call f.written (omega arith) f.states (second_closed c.syncs_narrow.ensures) in
+    goes_on g.D.Disk l (λ _. Unit {0}) FirstWillClose (WillClose 0) m (disk_of c.args.cells.now) (disk_of c.close_gate.new.self) (disk_of c.close_gate-2.new.self) _ c.close_gate-2.result e.layout one two

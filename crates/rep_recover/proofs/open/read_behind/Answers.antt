@@ -148,18 +148,18 @@ returns-clause-any g c =
 -- ---- nothing was written
 
 -- window and log were read
-looked : (g : _) (c : In_ok-log g) → Looks {T = Unit {0}} g.D.Disk.size g.D.Disk.failures g.D.Disk.honest g.D.Disk.history (disk_of c.args.cells.now) (disk_of c.find_log.new.cells) (Ok tt)
+looked : (g : _) (c : In_ok-log g) → Looks {T = Unit {0}} g.D.Disk (disk_of c.args.cells.now) (disk_of c.find_log.new.cells) (Ok tt)
 looked g c =
     let w = c.in_ok-beside.ensures.looks in
     let f = c.in_ok-log.ensures.looks in
-    looks_on g.D.Disk.size g.D.Disk.failures g.D.Disk.honest g.D.Disk.history {T = Unit {0}} {U = Unit {0}} (disk_of c.args.cells.now) (disk_of c.read_window.new.cells) (disk_of c.find_log.new.cells) tt (Ok tt)
+    looks_on g.D.Disk {T = Unit {0}} {U = Unit {0}} (disk_of c.args.cells.now) (disk_of c.read_window.new.cells) (disk_of c.find_log.new.cells) tt (Ok tt)
     (record { call = w.call; same = w.same }) (record { call = f.call; same = f.same })
 
 pub returns-clause-looks : goal.returns-clause-looks
 returns-clause-looks g c =
     let at = goal.at.returns-clause-looks g c in
     let p = c.in_ok-read_pages.ensures.looks in
-    let all = looks_on g.D.Disk.size g.D.Disk.failures g.D.Disk.honest g.D.Disk.history {T = Unit {0}} {U = Unit {0}} (disk_of c.args.cells.now) (disk_of c.find_log.new.cells) (disk_of c.read_pages.new.cells) tt (Ok tt)
+    let all = looks_on g.D.Disk {T = Unit {0}} {U = Unit {0}} (disk_of c.args.cells.now) (disk_of c.find_log.new.cells) (disk_of c.read_pages.new.cells) tt (Ok tt)
     (looked g at.In_ok-log) (record { call = p.call; same = p.same }) in
     record { call = all.call; same = all.same }
 
@@ -170,7 +170,7 @@ returns-in_err-read_pages-clause-looks g c =
     let a = disk_of c.args.cells.now in
     let d = disk_of c.read_pages.new.cells in
     let err = err_from_is_err_and c.from_residual-in_err-read_pages.result c.from_residual-in_err-read_pages.ensures.1 in
-    let last : Looks {T = Behind} g.D.Disk.size g.D.Disk.failures g.D.Disk.honest g.D.Disk.history (disk_of c.find_log.new.cells) d (Err c.in_err-read_pages.field-0.0) = record { call = p.call; same = p.same } in
-    let all = looks_on g.D.Disk.size g.D.Disk.failures g.D.Disk.honest g.D.Disk.history {T = Unit {0}} {U = Behind} a (disk_of c.find_log.new.cells) d tt (Err c.in_err-read_pages.field-0.0) (looked g at.In_ok-log) last in
-    subst (λ (r : Result Behind Refusal). Looks g.D.Disk.size g.D.Disk.failures g.D.Disk.honest g.D.Disk.history a d r) (sym err.1)
-    (subst (λ (e : Refusal). Looks {T = Behind} g.D.Disk.size g.D.Disk.failures g.D.Disk.honest g.D.Disk.history a d (Err e)) (sym err.2) all)
+    let last : Looks {T = Behind} g.D.Disk (disk_of c.find_log.new.cells) d (Err c.in_err-read_pages.field-0.0) = record { call = p.call; same = p.same } in
+    let all = looks_on g.D.Disk {T = Unit {0}} {U = Behind} a (disk_of c.find_log.new.cells) d tt (Err c.in_err-read_pages.field-0.0) (looked g at.In_ok-log) last in
+    subst (λ (r : Result Behind Refusal). Looks g.D.Disk a d r) (sym err.1)
+    (subst (λ (e : Refusal). Looks {T = Behind} g.D.Disk a d (Err e)) (sym err.2) all)

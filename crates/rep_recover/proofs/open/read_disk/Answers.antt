@@ -9,7 +9,7 @@ use Rattle.rep_cells.specs.Readings.{Reading, reading_of}
 use Rattle.rep_image.specs.Bases.{IsSuperAt}
 use Rattle.rep_recover.specs.Looking.{Counts, HasBadSuper, HasNoSuper}
 use Rattle.rep_recover.specs.Opening.{without_log, IsOpened, Recovers}
-use Rattle.rep_disk.specs.Calls.{IsCall}
+use Rattle.rep_disk.specs.Devices.{Calls}
 use Rattle.rep_recover.proofs.Going.{calls}
 use Rattle.rep_recover.proofs.Opening.{opened_from, recovers_from, refused_behind, refused_supers}
 use Rattle.rep_recover.proofs.open.read_disk.Goals as goal
@@ -48,15 +48,12 @@ returns-in-Err-find_synced-clause-refused g c =
 
 pub returns-in-Ok-read_behind-clause-call : goal.returns-in-Ok-read_behind-clause-call
 returns-in-Ok-read_behind-clause-call g c =
-    let size = g.D.Disk.size in
-    let failures = g.D.Disk.failures in
-    let honest = g.D.Disk.honest in
-    let first : IsCall {T = Unit {0}} size failures honest c.args.disk (disk_of c.find_synced.new.cells) (Ok tt) =
-    subst (λ d. IsCall {T = Unit {0}} size failures honest d (disk_of c.find_synced.new.cells) (Ok tt)) c.in-Ok.ensures.disk c.in-Ok-find_synced.ensures.call in
-    let second : IsCall {T = Unit {0}} size failures honest (disk_of c.find_synced.new.cells) (disk_of c.read_behind.new.cells) (Ok tt) =
-    subst (λ d. IsCall {T = Unit {0}} size failures honest d (disk_of c.read_behind.new.cells) (Ok tt)) c.relaid-cells.ensures.disk c.in-Ok-read_behind.ensures.looks.call in
-    let both = calls size failures honest c.args.disk (disk_of c.find_synced.new.cells) (disk_of c.read_behind.new.cells) tt (Ok tt) first second in
-    subst (λ x. IsCall {T = Unit {0}} size failures honest c.args.disk (disk_of x.cells) (Ok tt)) (sym c.opened.ensures) both
+    let first : Calls {T = Unit {0}} g.D.Disk c.args.disk (disk_of c.find_synced.new.cells) (Ok tt) =
+    subst (λ d. Calls {T = Unit {0}} g.D.Disk d (disk_of c.find_synced.new.cells) (Ok tt)) c.in-Ok.ensures.disk c.in-Ok-find_synced.ensures.call in
+    let second : Calls {T = Unit {0}} g.D.Disk (disk_of c.find_synced.new.cells) (disk_of c.read_behind.new.cells) (Ok tt) =
+    subst (λ d. Calls {T = Unit {0}} g.D.Disk d (disk_of c.read_behind.new.cells) (Ok tt)) c.relaid-cells.ensures.disk c.in-Ok-read_behind.ensures.looks.call in
+    let both = calls g.D.Disk c.args.disk (disk_of c.find_synced.new.cells) (disk_of c.read_behind.new.cells) tt (Ok tt) first second in
+    subst (λ x. Calls {T = Unit {0}} g.D.Disk c.args.disk (disk_of x.cells) (Ok tt)) (sym c.opened.ensures) both
 
 pub returns-in-Ok-read_behind-clause-opened : goal.returns-in-Ok-read_behind-clause-opened
 returns-in-Ok-read_behind-clause-opened g c =

@@ -14,7 +14,7 @@ loop-number-preserved g c =
       layout = e.layout ∙ inv.layout;
       lap = inv.lap;
       room = e.room;
-      looks = looks_on g.D.Disk.size g.D.Disk.failures g.D.Disk.honest g.D.Disk.history first disk (disk_of c.read_page.new.cells) _ _ inv.looks e.looks;
+      looks = looks_on g.D.Disk first disk (disk_of c.read_page.new.cells) _ _ inv.looks e.looks;
       found = λ honest none. pages_more (layout_of c.args.cells.now) (layout_of c.loop-number.cells) (g.D.Disk.history first) (g.D.Disk.history disk) c.args.superblock.now c.loop-number.number inv.layout (inv.looks.same honest)
           (inv.found honest none) (e.found (inv.looks.call.stays_honest honest) (ap failed (inv.looks.same honest) ∙ none));
     }

@@ -12,7 +12,7 @@ invariant-loop-number g l = record {
   layout : layout_of l.cells ≡ layout_of l.initial.cells;
   lap : l.number-end ≡ (layout_of l.initial.cells).pages;
   room : length l.room ≡ PAGE_BODY;
-  looks : Looks {T = Unit {0}} g.D.Disk.size g.D.Disk.failures g.D.Disk.honest g.D.Disk.history (disk_of l.initial.cells) (disk_of l.cells) (Ok tt);
+  looks : Looks {T = Unit {0}} g.D.Disk (disk_of l.initial.cells) (disk_of l.cells) (Ok tt);
   found : g.D.Disk.honest (disk_of l.initial.cells) → failed (g.D.Disk.history (disk_of l.initial.cells)) ≡ []
       → HasFirstPages (reading_of (layout_of l.initial.cells) (seen (g.D.Disk.history (disk_of l.initial.cells)))) l.superblock l.number;
 }

@@ -2,4 +2,4 @@ use Rattle.rep_replica.proofs.Joining.{runs_joined}
 use Rattle.rep_replica.proofs.laws.runs_are_joined.Goals as goal
 
 pub returns : goal.returns
-returns g c = runs_joined g.D.Disk.honest g.D.Disk.history g.D.Disk.failures c.runs_are_joined.ensures
+returns g c = runs_joined g.D.Disk c.runs_are_joined.ensures

@@ -5,7 +5,7 @@ use Rattle.rep_replica_uses.proofs.blocks.commit.Given as goal
 
 -- the blocks so far
 abbrev pub invariant-loop-replica : goal.invariant-loop-replica
-invariant-loop-replica g l = Came g.D.Disk.honest g.D.Disk.history g.D.Disk.failures l.fn.replica l.replica
+invariant-loop-replica g l = Came g.D.Disk l.fn.replica l.replica
 
 abbrev pub decreases-loop-replica : goal.decreases-loop-replica
-decreases-loop-replica g l = length (facts_of g.D.Disk.failures l.replica).ahead
+decreases-loop-replica g l = length (facts_of g.D.Disk l.replica).ahead

@@ -48,7 +48,7 @@ returns-in-Err-clause-tells g c = rw c.in-Err.is at c.join-replica.ensures.tells
 
 pub returns-clause-tells : goal.returns-clause-tells
 returns-clause-tells g c =
-    line_tells g.D.Disk.honest g.D.Disk.history g.D.Disk.failures c.args.replica c.join-replica.result.0 c.write_line-told.result c.write_line-told.ensures.err (rw c.in_default.is at c.join-replica.ensures.tells)
+    line_tells g.D.Disk c.args.replica c.join-replica.result.0 c.write_line-told.result c.write_line-told.ensures.err (rw c.in_default.is at c.join-replica.ensures.tells)
 
 -- ---- the notes of the streams
 

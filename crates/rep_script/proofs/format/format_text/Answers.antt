@@ -9,4 +9,4 @@ returns-clause-untold g c honest is =
 
 pub returns-clause-call : goal.returns-clause-call
 returns-clause-call g c =
-    told_call g.D.Disk.size g.D.Disk.failures g.D.Disk.honest c.args.disk c.format_disk-disk.result.0 c.format_disk-disk.result.1 c.write_formatted-outcome.result c.write_formatted-outcome.ensures.refused c.format_disk-disk.ensures.call
+    told_call g.D.Disk c.args.disk c.format_disk-disk.result.0 c.format_disk-disk.result.1 c.write_formatted-outcome.result c.write_formatted-outcome.ensures.refused c.format_disk-disk.ensures.call

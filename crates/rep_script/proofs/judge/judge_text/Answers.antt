@@ -1,4 +1,4 @@
-use Rattle.std.proofs.Common.{◌≡◌, refl, Err}
+use Rattle.std.proofs.Common.{◌≡◌, Err}
 use Rattle.std.proofs.lemmas.Result.{err_from_is_err_and}
 use Rattle.rep_types.specs.declared.refusal.Refusal.TheVariants.{OutOfMemory}
 use Rattle.rep_record.specs.Lines.{ahead}

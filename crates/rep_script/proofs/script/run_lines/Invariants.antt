@@ -9,7 +9,7 @@ use Rattle.rep_script.proofs.script.run_lines.Given as goal
 abbrev pub invariant-lines : goal.invariant-lines
 invariant-lines g l = record {
   done : IfSome (ahead l.initial.text (g.R.Source.remaining l.initial.reader)) (λ known.
-      HasRun (Does g.D.Disk.honest g.D.Disk.history g.D.Disk.failures) disk_line known l.initial.text l.initial.replica l.text
+      HasRun (Does g.D.Disk) disk_line known l.initial.text l.initial.replica l.text
       (ahead l.text (g.R.Source.remaining l.reader)) l.replica);
   noted : GoesOn (IsTooLong l.initial.text (g.R.Source.remaining l.initial.reader)) (IsTooLong l.text (g.R.Source.remaining l.reader))
       (g.R.Source.failed l.initial.reader) (g.R.Source.failed l.reader) (g.W.Sink.failed l.initial.writer) (g.W.Sink.failed l.writer);

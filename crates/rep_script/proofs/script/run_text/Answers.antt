@@ -1,4 +1,4 @@
-use Rattle.std.proofs.Common.{◌≡◌, refl, Err, ap, ◌∙◌}
+use Rattle.std.proofs.Common.{◌≡◌, Err, ap, ◌∙◌}
 use Rattle.std.proofs.lemmas.Result.{err_from_is_err_and}
 use Rattle.rep_script.specs.Scripts.{Does}
 use Rattle.rep_streams.proofs.Noted.{noted_ok}
@@ -10,15 +10,15 @@ pub returns-in_err-send-clause-ends : goal.returns-in_err-send-clause-ends
 returns-in_err-send-clause-ends g c =
     let left = g.R.Source.remaining in
     let q = err_from_is_err_and c.from_residual.result c.from_residual.ensures.1 in
-    (unwritten_on_disk (Does g.D.Disk.honest g.D.Disk.history g.D.Disk.failures) (left c.args.reader.now) c.args.replica.now c.run_lines-outcome.new.replica
+    (unwritten_on_disk (Does g.D.Disk) (left c.args.reader.now) c.args.replica.now c.run_lines-outcome.new.replica
     c.run_lines-outcome.result c.from_residual.result c.in_err-send.field-0.0 (q.1 ∙ ap Err q.2) (rw c.in_err-send.was at c.send.ensures.err)
-    (text_run (Does g.D.Disk.honest g.D.Disk.history g.D.Disk.failures) (left c.args.reader.now) c.new-text.result c.args.replica.now c.run_lines-outcome.new.replica
+    (text_run (Does g.D.Disk) (left c.args.reader.now) c.new-text.result c.args.replica.now c.run_lines-outcome.new.replica
     c.run_lines-outcome.result c.new-text.ensures c.run_lines-outcome.ensures.ends))
 
 pub returns-clause-ends : goal.returns-clause-ends
 returns-clause-ends g c =
     let left = g.R.Source.remaining in
-    (text_run (Does g.D.Disk.honest g.D.Disk.history g.D.Disk.failures) (left c.args.reader.now) c.new-text.result c.args.replica.now c.run_lines-outcome.new.replica
+    (text_run (Does g.D.Disk) (left c.args.reader.now) c.new-text.result c.args.replica.now c.run_lines-outcome.new.replica
     c.run_lines-outcome.result c.new-text.ensures c.run_lines-outcome.ensures.ends)
 
 pub returns-in_err-send-clause-notes : goal.returns-in_err-send-clause-notes

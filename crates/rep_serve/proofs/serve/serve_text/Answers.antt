@@ -22,7 +22,7 @@ pub serve_settled-requires-clause-running : goal.serve_settled-requires-clause-r
 serve_settled-requires-clause-running g c κs within =
     let stands = not_refused (c.args.replica.stopped || is_some c.args.replica.engine.halted) _ c.settle.result c.in_default.field-0 _ c.in_default.is c.settle.ensures.stopped in
     let works = rw c.in_default.is at (c.settle.ensures.works stands) in
-    let serves = settling_serves works.events works.answers (facts_of g.D.Disk.failures c.args.replica) (facts_of g.D.Disk.failures c.settle.new.self) works.ends works.moves in
+    let serves = settling_serves works.events works.answers (facts_of g.D.Disk c.args.replica) (facts_of g.D.Disk c.settle.new.self) works.ends works.moves in
     let ran = neither c.settle.new.self.stopped c.settle.new.self.engine.halted (serves.stopped ∙ stands) in
     record { inside = ran.0; device = ran.1 }
 
@@ -31,7 +31,7 @@ serve_settled-requires-clause-defined g c κs within =
     let stands = not_refused (c.args.replica.stopped || is_some c.args.replica.engine.halted) _ c.settle.result c.in_default.field-0 _ c.in_default.is c.settle.ensures.stopped in
     let works = rw c.in_default.is at (c.settle.ensures.works stands) in
     let before : IsFalse (is_nil_bytes c.args.replica.engine.checkpoint.base.uuid) = search rules in
-    let stays = settling_stays works.events works.answers (facts_of g.D.Disk.failures c.args.replica) (facts_of g.D.Disk.failures c.settle.new.self) works.moves in
+    let stays = settling_stays works.events works.answers (facts_of g.D.Disk c.args.replica) (facts_of g.D.Disk c.settle.new.self) works.moves in
     subst (λ u. IsFalse (is_nil_bytes u)) (sym stays.uuid) before
 
 pub returns-clause-serves : goal.returns-clause-serves

@@ -3,5 +3,5 @@ use Rattle.rep_stations.proofs.laws.histories_extend_the_order.Goals as goal
 
 pub returns : goal.returns
 returns g c =
-    histories_extend g.D.Disk.honest g.D.Disk.history g.D.Disk.failures c.judging_goes_on.ensures c.judged_items_extend_the_order.ensures c.state_is_enough.ensures
+    histories_extend g.D.Disk c.judging_goes_on.ensures c.judged_items_extend_the_order.ensures c.state_is_enough.ensures
     c.nodes_hold_the_order.ensures c.fronts_stand_for_the_order.ensures c.steps_follow_the_order.ensures

@@ -14,4 +14,4 @@ returns-clause-taken g c =
     let waits = c.args.backlog.now in
     both_ok c.accept.result _ _ _ _ c.accept.ensures.count c.accept.ensures.facts c.accept.ensures.holds (λ count is facts holds first certifier items taken legal.
     let within = c.accepted_items_are_a_front.ensures.within old.log.phase old.block waits in
-    more_taken g.D.Disk.honest g.D.Disk.history g.D.Disk.failures c.judging_goes_on.ensures first certifier items old taken c.accept.new.self waits count (omega (arith, is, within)) facts holds legal)
+    more_taken g.D.Disk c.judging_goes_on.ensures first certifier items old taken c.accept.new.self waits count (omega (arith, is, within)) facts holds legal)

@@ -5,10 +5,10 @@ use Rattle.rep_checkpoint.proofs.install.Installation.next.Goals as goal
 
 pub returns-in-Ok-clause-goes : goal.returns-in-Ok-clause-goes
 returns-in-Ok-clause-goes g c =
-    goes_next g.D.Disk.honest g.D.Disk.history (layout_of c.args.cells.now) c.args.base.now c.args.self.now c.go_on.new.self (disk_of c.args.cells.now) (disk_of c.write_next.new.cells) c.write_next.result (Ok c.in-Ok.field-0) c.requires.due c.in-Ok.ensures.fault c.go_on.ensures tt
+    goes_next g.D.Disk (layout_of c.args.cells.now) c.args.base.now c.args.self.now c.go_on.new.self (disk_of c.args.cells.now) (disk_of c.write_next.new.cells) c.write_next.result (Ok c.in-Ok.field-0) c.requires.due c.in-Ok.ensures.fault c.go_on.ensures tt
     c.in-Ok.ensures.only c.write_next.ensures.written c.write_next.ensures.inside c.write_next.ensures.states
 
 pub returns-in-Err-clause-goes : goal.returns-in-Err-clause-goes
 returns-in-Err-clause-goes g c =
-    goes_next g.D.Disk.honest g.D.Disk.history (layout_of c.args.cells.now) c.args.base.now c.args.self.now c.args.self.now (disk_of c.args.cells.now) (disk_of c.write_next.new.cells) c.write_next.result (Err c.in-Err.refusal) c.requires.due c.in-Err.ensures.fault tt refl
+    goes_next g.D.Disk (layout_of c.args.cells.now) c.args.base.now c.args.self.now c.args.self.now (disk_of c.args.cells.now) (disk_of c.write_next.new.cells) c.write_next.result (Err c.in-Err.refusal) c.requires.due c.in-Err.ensures.fault tt refl
     c.in-Err.ensures.only c.write_next.ensures.written c.write_next.ensures.inside c.write_next.ensures.states

@@ -23,9 +23,9 @@ returns-in-Ready-clause-states g c =
     let base = c.args.base.now in
     let v = c.args.self.now in
     let part : v.part ≡ Ready = sym (ap (λ (i : Coming). i.part) c.self.view_is) ∙ c.in-Ready.is in
-    subst (λ (p : Part). StepsAt g.D.Disk.honest g.D.Disk.history l (next_place base (Toward v.next p)) (next_step (Toward v.next p)) old new c.put_super.result) (sym part)
-    (subst (λ (n : Next). StepsAt g.D.Disk.honest g.D.Disk.history l (next_place base (Toward n Ready)) (filling (super_bytes n.super)) old new c.put_super.result) (ap (λ (i : Coming). i.next) c.self.view_is)
-    (subst (λ (sd : Side). StepsAt g.D.Disk.honest g.D.Disk.history l (Super sd) (filling (super_bytes c.self.inside.next.super)) old new c.put_super.result) c.spare_side-side.ensures c.put_super.ensures.states))
+    subst (λ (p : Part). StepsAt g.D.Disk l (next_place base (Toward v.next p)) (next_step (Toward v.next p)) old new c.put_super.result) (sym part)
+    (subst (λ (n : Next). StepsAt g.D.Disk l (next_place base (Toward n Ready)) (filling (super_bytes n.super)) old new c.put_super.result) (ap (λ (i : Coming). i.next) c.self.view_is)
+    (subst (λ (sd : Side). StepsAt g.D.Disk l (Super sd) (filling (super_bytes c.self.inside.next.super)) old new c.put_super.result) c.spare_side-side.ensures c.put_super.ensures.states))
 
 pub returns-in-Flushing-clause-written : goal.returns-in-Flushing-clause-written
 returns-in-Flushing-clause-written g c =
@@ -35,6 +35,6 @@ returns-in-Flushing-clause-written g c =
     let base = c.args.base.now in
     let v = c.args.self.now in
     let part : v.part ≡ Flushing = sym (ap (λ (i : Coming). i.part) c.self.view_is) ∙ c.in-Flushing.is in
-    subst (λ (p : Part). WritesOnly g.D.Disk.honest g.D.Disk.history (next_offset l base (Toward v.next p)) (next_bytes (Toward v.next p)) old new c.put_window.result) (sym part)
-    (subst (λ (n : Next). WritesOnly g.D.Disk.honest g.D.Disk.history (next_offset l base (Toward n Flushing)) (window_bytes (window_of n)) old new c.put_window.result) (ap (λ (i : Coming). i.next) c.self.view_is)
-    (subst (λ (sd : Side). WritesOnly g.D.Disk.honest g.D.Disk.history (offset_of l (Window sd)) (window_bytes (window_of c.self.inside.next)) old new c.put_window.result) c.spare_side-side.ensures c.put_window.ensures.written))
+    subst (λ (p : Part). WritesOnly g.D.Disk (next_offset l base (Toward v.next p)) (next_bytes (Toward v.next p)) old new c.put_window.result) (sym part)
+    (subst (λ (n : Next). WritesOnly g.D.Disk (next_offset l base (Toward n Flushing)) (window_bytes (window_of n)) old new c.put_window.result) (ap (λ (i : Coming). i.next) c.self.view_is)
+    (subst (λ (sd : Side). WritesOnly g.D.Disk (offset_of l (Window sd)) (window_bytes (window_of c.self.inside.next)) old new c.put_window.result) c.spare_side-side.ensures c.put_window.ensures.written))

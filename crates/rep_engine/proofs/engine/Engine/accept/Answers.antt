@@ -21,7 +21,7 @@ use Rattle.rep_engine.proofs.engine.Engine.accept.Goals as goal
 same_versions : (g : _) (c : goal.After-from_residual-in_err-add_items g) → c.add_items.new.versions ≡ c.self.inside.versions
 same_versions g c =
     let h = c.self.invariant.0 in
-    let come = subst (λ (e : Engine g.row.D.Denot). ComeNext (facts_of g.D.Disk.failures e) c.args.backlog.now) (sym c.self.view_is) c.requires in
+    let come = subst (λ (e : Engine g.row.D.Denot). ComeNext (facts_of g.D.Disk e) c.args.backlog.now) (sym c.self.view_is) c.requires in
     let above = h.behind in
     c.in_err-add_items.ensures.unchanged c.self.inside.checkpoint.base.position (durable_of c.self.inside.log + length c.self.inside.block) (omega (arith, above)) come.follow h.within
 
@@ -68,7 +68,7 @@ engine_then g c =
     let h = c.self.invariant.0 in
     let js = c.args.backlog.now in
     let block = c.self.inside.block in
-    let come = subst (λ (e : Engine g.row.D.Denot). ComeNext (facts_of g.D.Disk.failures e) js) (sym c.self.view_is) c.requires in
+    let come = subst (λ (e : Engine g.row.D.Denot). ComeNext (facts_of g.D.Disk e) js) (sym c.self.view_is) c.requires in
     let above = h.behind in
     let follow : SeqnosFrom (c.self.inside.log.seqno + length block) js = subst (λ n. SeqnosFrom n js) (omega (arith, above)) come.follow in
     let size : length (take (fitting block js) js) ≡ fitting block js = length-take-le (fitting block js) js (fitting_within block js) in
@@ -95,8 +95,8 @@ invariant_of-self-then-count-gt0 g c = (
 
 pub returns-then-count-gt0-clause-holds : goal.returns-then-count-gt0-clause-holds
 returns-then-count-gt0-clause-holds g c = λ n holds judged.
-    holds_more g.D.Disk.honest g.D.Disk.history g.D.Disk.failures c.versions_follow_the_items.ensures c.the_log_is_apart.ensures _ _ (take c.next_items-count.result c.args.backlog.now) (engine_then g c) refl refl refl refl refl (block_then g c) c.in_ok-add_items.ensures.added n
-    (subst (λ (e : Engine g.row.D.Denot). Holds g.D.Disk.honest g.D.Disk.history g.D.Disk.failures n e) (sym c.self.view_is) holds) judged
+    holds_more g.D.Disk c.versions_follow_the_items.ensures c.the_log_is_apart.ensures _ _ (take c.next_items-count.result c.args.backlog.now) (engine_then g c) refl refl refl refl refl (block_then g c) c.in_ok-add_items.ensures.added n
+    (subst (λ (e : Engine g.row.D.Denot). Holds g.D.Disk n e) (sym c.self.view_is) holds) judged
 
 -- ---- where none came
 
@@ -110,9 +110,9 @@ engine_else g c =
 
 pub returns-else-count-gt0-clause-holds : goal.returns-else-count-gt0-clause-holds
 returns-else-count-gt0-clause-holds g c = λ n holds judged.
-    holds_more g.D.Disk.honest g.D.Disk.history g.D.Disk.failures c.versions_follow_the_items.ensures c.the_log_is_apart.ensures _ _ (take c.next_items-count.result c.args.backlog.now) (engine_else g c) refl refl refl refl refl
+    holds_more g.D.Disk c.versions_follow_the_items.ensures c.the_log_is_apart.ensures _ _ (take c.next_items-count.result c.args.backlog.now) (engine_else g c) refl refl refl refl refl
     (sym (ap (λ (js : List Judged). c.self.inside.block ++ js) (none_come g c) ∙ append-nil c.self.inside.block)) c.in_ok-add_items.ensures.added n
-    (subst (λ (e : Engine g.row.D.Denot). Holds g.D.Disk.honest g.D.Disk.history g.D.Disk.failures n e) (sym c.self.view_is) holds) judged
+    (subst (λ (e : Engine g.row.D.Denot). Holds g.D.Disk n e) (sym c.self.view_is) holds) judged
 
 -- ---- where the device has failed before
 

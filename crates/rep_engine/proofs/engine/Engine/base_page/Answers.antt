@@ -18,9 +18,9 @@ use Rattle.rep_engine.proofs.DonorPages.{GivesPage, optional, page_comes, page_e
 use Rattle.rep_engine.proofs.engine.Engine.base_page.Goals as goal
 use Rattle.rep_engine.proofs.engine.Engine.base_page.Goals.{in-Ok, in-Err}
 
-pooled : (g : _) (c : goal.Joined-outcome g) → IsPooled g.D.Disk.honest g.D.Disk.history c.base-base.result.now.params.rows (layout_of c.self.inside.cells) (disk_of c.self.inside.cells) c.self.inside.pool
+pooled : (g : _) (c : goal.Joined-outcome g) → IsPooled g.D.Disk c.base-base.result.now.params.rows (layout_of c.self.inside.cells) (disk_of c.self.inside.cells) c.self.inside.pool
 pooled g c =
-    subst (λ (b : SuperBody). IsPooled g.D.Disk.honest g.D.Disk.history b.params.rows (layout_of c.self.inside.cells) (disk_of c.self.inside.cells) c.self.inside.pool) (sym c.base-base.ensures.base)
+    subst (λ (b : SuperBody). IsPooled g.D.Disk b.params.rows (layout_of c.self.inside.cells) (disk_of c.self.inside.cells) c.self.inside.pool) (sym c.base-base.ensures.base)
     (c.self.invariant.2 (runs_within c.self.view_is c.in_ok-running.ensures.runs))
 
 -- the pool agrees with the device: so the bytes decide what it gives
@@ -33,7 +33,7 @@ pub invariant_of-self : goal.invariant_of-self
 invariant_of-self g c = (
   subst (λ (l : Layout). IsEngine l c.self.inside.checkpoint c.self.inside.log c.self.inside.versions c.self.inside.block) (sym c.take_page-outcome.ensures.layout) c.self.invariant.0,
   c.self.invariant.1,
-  λ on. pooled_as g.D.Disk.honest g.D.Disk.history (layout_of c.self.inside.cells) (layout_of c.take_page-outcome.new.cells) c.base-base.result.now c.self.inside.checkpoint.base (disk_of c.take_page-outcome.new.cells) c.take_page-outcome.new.self c.take_page-outcome.ensures.layout (ap (λ (b : SuperBody). b.params) (sym c.base-base.ensures.base))
+  λ on. pooled_as g.D.Disk (layout_of c.self.inside.cells) (layout_of c.take_page-outcome.new.cells) c.base-base.result.now c.self.inside.checkpoint.base (disk_of c.take_page-outcome.new.cells) c.take_page-outcome.new.self c.take_page-outcome.ensures.layout (ap (λ (b : SuperBody). b.params) (sym c.base-base.ensures.base))
       (c.take_page-outcome.ensures.agrees (pooled g c)),
 )
 
@@ -43,10 +43,10 @@ given g c = elim c.match-outcome.branch [
   | in-Err w ↦ ap optional w.in-Err.is ∙ sym w.result-is
 ]
 
-comes : (g : _) (c : goal.Joined-outcome g) → GivesPage g.D.Disk.size g.D.Disk.failures g.D.Disk.honest g.D.Disk.history c.args.self.now (inside c.take_page-outcome.new.cells c.self.inside.checkpoint c.self.inside.log c.self.inside.versions c.self.inside.block c.halted_by-self-inside.result) c.args.page c.match-outcome.result
+comes : (g : _) (c : goal.Joined-outcome g) → GivesPage g.D.Disk c.args.self.now (inside c.take_page-outcome.new.cells c.self.inside.checkpoint c.self.inside.log c.self.inside.versions c.self.inside.block c.halted_by-self-inside.result) c.args.page c.match-outcome.result
 comes g c =
-    subst (GivesPage g.D.Disk.size g.D.Disk.failures g.D.Disk.honest g.D.Disk.history c.args.self.now (inside c.take_page-outcome.new.cells c.self.inside.checkpoint c.self.inside.log c.self.inside.versions c.self.inside.block c.halted_by-self-inside.result) c.args.page) (given g c)
-    (page_comes g.D.Disk.size g.D.Disk.failures g.D.Disk.honest g.D.Disk.history (inside c.self.inside.cells c.self.inside.checkpoint c.self.inside.log c.self.inside.versions c.self.inside.block c.self.inside.halted) c.args.self.now c.self.view_is c.self.invariant.0
+    subst (GivesPage g.D.Disk c.args.self.now (inside c.take_page-outcome.new.cells c.self.inside.checkpoint c.self.inside.log c.self.inside.versions c.self.inside.block c.halted_by-self-inside.result) c.args.page) (given g c)
+    (page_comes g.D.Disk (inside c.self.inside.cells c.self.inside.checkpoint c.self.inside.log c.self.inside.versions c.self.inside.block c.self.inside.halted) c.args.self.now c.self.view_is c.self.invariant.0
     (runs_within c.self.view_is c.in_ok-running.ensures.runs) c.stable_bases_are_read.ensures c.args.page c.base-base.result.now c.base-base.ensures.base c.in-In.field-0 c.in-In.ensures (disk_of c.take_page-outcome.new.cells) (layout_of c.take_page-outcome.new.cells) c.take_page-outcome.ensures.layout
     c.take_page-outcome.ensures.same c.halted_by-self-inside.result c.take_page-outcome.result c.take_page-outcome.ensures.call (c.halted_by-self-inside.ensures ∙ ap (λ (p : Phase). halted_by p c.take_page-outcome.result) c.phase.ensures) c.take_page-outcome.ensures.refused
     c.take_page-outcome.ensures.number (spelled g c))
@@ -59,7 +59,7 @@ returns g c = let k = comes g c in record { asks = k.asks; none = k.none; holds 
 pub returns-in_err-running : goal.returns-in_err-running
 returns-in_err-running g c =
     rw (passed_on c.from_residual.result c.in_err-running.field-0.0 c.from_residual.ensures.1 c.in_err-running.ensures.stopped.0) (record {
-      asks = asks_stopped g.D.Disk.size g.D.Disk.failures g.D.Disk.honest g.D.Disk.history in_pages c.args.self.now c.in_err-running.ensures.stopped.1;
+      asks = asks_stopped g.D.Disk in_pages c.args.self.now c.in_err-running.ensures.stopped.1;
       none = tt;
       holds = λ n holds other. holds;
       page = λ n holds. tt;

@@ -12,7 +12,7 @@ invariant_of-self g c =
     let came = c.begin_at_durable-outcome.ensures in (
       engine_tried c.args.certifier.now.current (layout_of c.self.inside.cells) c.self.inside.checkpoint c.begin_at_durable-outcome.new.checkpoint c.self.inside.log c.self.inside.versions c.self.inside.block c.begin_at_durable-outcome.result c.self.invariant.0 c.base.ensures.checkpoint came,
       c.self.invariant.1,
-      λ on. pooled_as g.D.Disk.honest g.D.Disk.history (layout_of c.self.inside.cells) (layout_of c.self.inside.cells) c.self.inside.checkpoint.base c.begin_at_durable-outcome.new.checkpoint.base (disk_of c.self.inside.cells) c.self.inside.pool refl
+      λ on. pooled_as g.D.Disk (layout_of c.self.inside.cells) (layout_of c.self.inside.cells) c.self.inside.checkpoint.base c.begin_at_durable-outcome.new.checkpoint.base (disk_of c.self.inside.cells) c.self.inside.pool refl
           (ap (λ (b : SuperBody). b.params) (base_tried c.args.certifier.now.current c.self.inside.checkpoint c.begin_at_durable-outcome.new.checkpoint c.self.inside.log c.self.inside.versions c.begin_at_durable-outcome.result came)) (c.self.invariant.2 on),
     )
 

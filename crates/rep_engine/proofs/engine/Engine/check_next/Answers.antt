@@ -16,8 +16,8 @@ use Rattle.rep_engine.proofs.engine.Engine.check_next.Goals.{In-Begin}
 pub returns-in_err-running : goal.returns-in_err-running
 returns-in_err-running g c =
     let was = passed_on c.from_residual.result c.in_err-running.field-0.0 c.from_residual.ensures.1 c.in_err-running.ensures.stopped.0 in
-    let k = subst (λ (r : Result (Unit {0}) Refusal). IsStepped g.D.Disk.honest g.D.Disk.history g.D.Disk.size g.D.Disk.failures (λ n. Unit {0}) c.args.self.now c.args.self.now r (wrote r)) (sym was)
-    (stopped_stepped g.D.Disk.honest g.D.Disk.history g.D.Disk.size g.D.Disk.failures (λ n. Unit {0}) c.args.self.now c.in_err-running.ensures.stopped.1) in
+    let k = subst (λ (r : Result (Unit {0}) Refusal). IsStepped g.D.Disk (λ n. Unit {0}) c.args.self.now c.args.self.now r (wrote r)) (sym was)
+    (stopped_stepped g.D.Disk (λ n. Unit {0}) c.args.self.now c.in_err-running.ensures.stopped.1) in
     record {
       call = k.call;
       rest = k.rest;
@@ -32,7 +32,7 @@ returns-in_err-running g c =
 
 pub returns-in-Next : goal.returns-in-Next
 returns-in-Next g c =
-    let went = goes_stepped g.D.Disk.honest g.D.Disk.history g.D.Disk.size g.D.Disk.failures c.checkpoints_go_on.ensures.nodes c.checkpoints_go_on.ensures.fronts c.checkpoints_go_on.ensures.apart c.checkpoints_go_on.ensures.facts g.met.D.Disk.sized c.self.view_is c.self.invariant.0
+    let went = goes_stepped g.D.Disk c.checkpoints_go_on.ensures.nodes c.checkpoints_go_on.ensures.fronts c.checkpoints_go_on.ensures.apart c.checkpoints_go_on.ensures.facts g.met.D.Disk.sized c.self.view_is c.self.invariant.0
     c.in_ok-running.ensures.runs c.in-Next.ensures c.go_on.result c.go_on.ensures in
     let k = went.1 in
     record {
@@ -55,7 +55,7 @@ pub returns-in-Begin-clause-none : goal.returns-in-Begin-clause-none
 returns-in-Begin-clause-none g c = λ off. ap (λ (o : Option Phase). Err (if is_some o then Stopped else NotDue)) (sym c.in_ok-running.ensures.runs)
 
 pub returns-in-Begin-clause-moves : goal.returns-in-Begin-clause-moves
-returns-in-Begin-clause-moves g c = waits_moves g.D.Disk.honest g.D.Disk.history g.D.Disk.size g.D.Disk.failures c.checkpoints_go_on.ensures.facts c.args.self.now c.in_ok-running.ensures.runs (waits g (goal.at.returns-in-Begin-clause-moves g c).In-Begin)
+returns-in-Begin-clause-moves g c = waits_moves g.D.Disk c.checkpoints_go_on.ensures.facts c.args.self.now c.in_ok-running.ensures.runs (waits g (goal.at.returns-in-Begin-clause-moves g c).In-Begin)
 
 pub returns-in-Begin-clause-steps : goal.returns-in-Begin-clause-steps
-returns-in-Begin-clause-steps g c = waits_steps g.D.Disk.honest g.D.Disk.history g.D.Disk.size g.D.Disk.failures c.checkpoints_go_on.ensures.facts c.args.self.now c.in_ok-running.ensures.runs (waits g (goal.at.returns-in-Begin-clause-steps g c).In-Begin)
+returns-in-Begin-clause-steps g c = waits_steps g.D.Disk c.checkpoints_go_on.ensures.facts c.args.self.now c.in_ok-running.ensures.runs (waits g (goal.at.returns-in-Begin-clause-steps g c).In-Begin)

@@ -19,7 +19,7 @@ use Rattle.rep_disk.specs.Leaving.{leaves_none}
 use Rattle.rep_engine.proofs.engine.Engine.flush.Goals as goal
 use Rattle.rep_engine.proofs.engine.Engine.flush.Goals.{After-flush_page}
 
-flushed_out : (g : _) (c : After-flush_page g) → IsFlushed g.D.Disk.honest g.D.Disk.history g.D.Disk.size g.D.Disk.failures c.args.self.now c.flush_page.new.self.disk c.flush_page.new.self.checkpoint c.flush_page.new.self.halted c.in-Ok.page c.flush_page.result
+flushed_out : (g : _) (c : After-flush_page g) → IsFlushed g.D.Disk c.args.self.now c.flush_page.new.self.disk c.flush_page.new.self.checkpoint c.flush_page.new.self.halted c.in-Ok.page c.flush_page.result
 flushed_out g c = record {
   engine = c.running.ensures.engine;
   runs = c.in_ok-running.ensures.runs;
@@ -32,41 +32,41 @@ flushed_out g c = record {
 
 pub returns-in-Ok-clause-moves : goal.returns-in-Ok-clause-moves
 returns-in-Ok-clause-moves g c =
-    subst (λ (e : Engine g.row.D.Denot). Moves (facts_of g.D.Disk.failures c.args.self.now) (to_flush c.args.page) (wrote c.flush_page.result) (facts_of g.D.Disk.failures e)) (sym c.flush_page.ensures.rest)
-    (subst (λ (page : ℕ). Moves (facts_of g.D.Disk.failures c.args.self.now) (to_flush page) (wrote c.flush_page.result) (facts_of g.D.Disk.failures (record c.args.self.now { disk = c.flush_page.new.self.disk; checkpoint = c.flush_page.new.self.checkpoint; halted = c.flush_page.new.self.halted }))) c.in-Ok.ensures.1
-    (flush_moves g.D.Disk.honest g.D.Disk.history g.D.Disk.size g.D.Disk.failures g.met.D.Disk.sized c.checkpoints_go_on.ensures.facts c.args.self.now c.flush_page.new.self.disk c.flush_page.new.self.checkpoint c.flush_page.new.self.halted c.in-Ok.page c.flush_page.result (flushed_out g c)))
+    subst (λ (e : Engine g.row.D.Denot). Moves (facts_of g.D.Disk c.args.self.now) (to_flush c.args.page) (wrote c.flush_page.result) (facts_of g.D.Disk e)) (sym c.flush_page.ensures.rest)
+    (subst (λ (page : ℕ). Moves (facts_of g.D.Disk c.args.self.now) (to_flush page) (wrote c.flush_page.result) (facts_of g.D.Disk (record c.args.self.now { disk = c.flush_page.new.self.disk; checkpoint = c.flush_page.new.self.checkpoint; halted = c.flush_page.new.self.halted }))) c.in-Ok.ensures.1
+    (flush_moves g.D.Disk g.met.D.Disk.sized c.checkpoints_go_on.ensures.facts c.args.self.now c.flush_page.new.self.disk c.flush_page.new.self.checkpoint c.flush_page.new.self.halted c.in-Ok.page c.flush_page.result (flushed_out g c)))
 
 pub returns-in-Ok-clause-steps : goal.returns-in-Ok-clause-steps
 returns-in-Ok-clause-steps g c = λ n holds.
-    let came = flush_holds g.D.Disk.honest g.D.Disk.history g.D.Disk.size g.D.Disk.failures g.met.D.Disk.sized c.checkpoints_go_on.ensures.facts c.args.self.now c.flush_page.new.self.disk c.flush_page.new.self.checkpoint c.flush_page.new.self.halted c.in-Ok.page c.flush_page.result (flushed_out g c) c.checkpoints_go_on.ensures.nodes c.checkpoints_go_on.ensures.fronts c.checkpoints_go_on.ensures.apart c.checkpoints_go_on.ensures.states n holds (flush_refusal (stage_of c.args.self.now.checkpoint) c.in-Ok.page) refl in
-    (came.0, subst (λ (page : ℕ). Steps n (to_flush page) (wrote c.flush_page.result) came.0) c.in-Ok.ensures.1 came.1, subst (λ (e : Engine g.row.D.Denot). Holds g.D.Disk.honest g.D.Disk.history g.D.Disk.failures came.0 e) (sym c.flush_page.ensures.rest) came.2)
+    let came = flush_holds g.D.Disk g.met.D.Disk.sized c.checkpoints_go_on.ensures.facts c.args.self.now c.flush_page.new.self.disk c.flush_page.new.self.checkpoint c.flush_page.new.self.halted c.in-Ok.page c.flush_page.result (flushed_out g c) c.checkpoints_go_on.ensures.nodes c.checkpoints_go_on.ensures.fronts c.checkpoints_go_on.ensures.apart c.checkpoints_go_on.ensures.states n holds (flush_refusal (stage_of c.args.self.now.checkpoint) c.in-Ok.page) refl in
+    (came.0, subst (λ (page : ℕ). Steps n (to_flush page) (wrote c.flush_page.result) came.0) c.in-Ok.ensures.1 came.1, subst (λ (e : Engine g.row.D.Denot). Holds g.D.Disk came.0 e) (sym c.flush_page.ensures.rest) came.2)
 
 pub returns-in-Ok-clause-leaves : goal.returns-in-Ok-clause-leaves
-returns-in-Ok-clause-leaves g c = λ n holds. flush_leaves g.D.Disk.honest g.D.Disk.history g.D.Disk.size g.D.Disk.failures g.met.D.Disk.sized c.checkpoints_go_on.ensures.facts c.args.self.now c.flush_page.new.self.disk c.flush_page.new.self.checkpoint c.flush_page.new.self.halted c.in-Ok.page c.flush_page.result (flushed_out g c) n holds c.checkpoints_go_on.ensures.nodes c.checkpoints_go_on.ensures.fronts c.checkpoints_go_on.ensures.apart c.checkpoints_go_on.ensures.states
+returns-in-Ok-clause-leaves g c = λ n holds. flush_leaves g.D.Disk g.met.D.Disk.sized c.checkpoints_go_on.ensures.facts c.args.self.now c.flush_page.new.self.disk c.flush_page.new.self.checkpoint c.flush_page.new.self.halted c.in-Ok.page c.flush_page.result (flushed_out g c) n holds c.checkpoints_go_on.ensures.nodes c.checkpoints_go_on.ensures.fronts c.checkpoints_go_on.ensures.apart c.checkpoints_go_on.ensures.states
 
 pub returns-in-Err-clause-steps : goal.returns-in-Err-clause-steps
 returns-in-Err-clause-steps g c = λ n holds.
     let old : Engine g.row.D.Denot = c.args.self.now in
     let runs = c.in_ok-running.ensures.runs in
-    (n, far_steps g.D.Disk.honest g.D.Disk.history g.D.Disk.failures c.row_places_are_told.ensures old c.args.page n holds runs c.running.ensures.engine.checkpoint (omega (arith, c.in-Err.ensures)), holds)
+    (n, far_steps g.D.Disk c.row_places_are_told.ensures old c.args.page n holds runs c.running.ensures.engine.checkpoint (omega (arith, c.in-Err.ensures)), holds)
 
 -- ---- what a refusal leaves, and what the bytes say
 
 pub returns-in-Ok-clause-unchanged : goal.returns-in-Ok-clause-unchanged
 returns-in-Ok-clause-unchanged g c =
     subst (λ (x : Engine g.row.D.Denot). IfErr c.flush_page.result (λ e. (e ≡ DiskFault) ⊎ (((e ≡ Corrupt Pages) × (x ≡ record c.args.self.now { disk = c.flush_page.new.self.disk })) ⊎ (x ≡ c.args.self.now)))) (sym c.flush_page.ensures.rest)
-    (flush_left g.D.Disk.honest g.D.Disk.history g.D.Disk.size g.D.Disk.failures g.met.D.Disk.sized c.checkpoints_go_on.ensures.facts c.args.self.now c.flush_page.new.self.disk c.flush_page.new.self.checkpoint c.flush_page.new.self.halted c.in-Ok.page c.flush_page.result (flushed_out g c))
+    (flush_left g.D.Disk g.met.D.Disk.sized c.checkpoints_go_on.ensures.facts c.args.self.now c.flush_page.new.self.disk c.flush_page.new.self.checkpoint c.flush_page.new.self.halted c.in-Ok.page c.flush_page.result (flushed_out g c))
 
 pub returns-in-Ok-clause-fault : goal.returns-in-Ok-clause-fault
 returns-in-Ok-clause-fault g c =
     subst (λ (x : Engine g.row.D.Denot). IfErr c.flush_page.result (λ e. e ≡ DiskFault → x ≡ record c.args.self.now { disk = c.flush_page.new.self.disk; halted = Some c.args.self.now.log.phase })) (sym c.flush_page.ensures.rest)
-    (flush_stops g.D.Disk.honest g.D.Disk.history g.D.Disk.size g.D.Disk.failures g.met.D.Disk.sized c.checkpoints_go_on.ensures.facts c.args.self.now c.flush_page.new.self.disk c.flush_page.new.self.checkpoint c.flush_page.new.self.halted c.in-Ok.page c.flush_page.result (flushed_out g c))
+    (flush_stops g.D.Disk g.met.D.Disk.sized c.checkpoints_go_on.ensures.facts c.args.self.now c.flush_page.new.self.disk c.flush_page.new.self.checkpoint c.flush_page.new.self.halted c.in-Ok.page c.flush_page.result (flushed_out g c))
 
 pub returns-in-Ok-clause-spelled : goal.returns-in-Ok-clause-spelled
 returns-in-Ok-clause-spelled g c =
     let old : Engine g.row.D.Denot = c.args.self.now in
     subst (λ (page : ℕ). g.D.Disk.honest old.disk → FlushesAsSpelled old.layout old.checkpoint.base old.kept (position_in old.checkpoint.stage) page (g.D.Disk.history old.disk) (g.D.Disk.history c.flush_page.new.self.disk) c.flush_page.result) c.in-Ok.ensures.1
-    (λ honest. flush_spelled g.D.Disk.honest g.D.Disk.history g.D.Disk.size g.D.Disk.failures g.met.D.Disk.sized c.checkpoints_go_on.ensures.facts c.args.self.now c.flush_page.new.self.disk c.flush_page.new.self.checkpoint c.flush_page.new.self.halted c.in-Ok.page c.flush_page.result (flushed_out g c) honest (λ slot there. c.in_ok-running.ensures.readable honest (Page c.in-Ok.page slot)))
+    (λ honest. flush_spelled g.D.Disk g.met.D.Disk.sized c.checkpoints_go_on.ensures.facts c.args.self.now c.flush_page.new.self.disk c.flush_page.new.self.checkpoint c.flush_page.new.self.halted c.in-Ok.page c.flush_page.result (flushed_out g c) honest (λ slot there. c.in_ok-running.ensures.readable honest (Page c.in-Ok.page slot)))
 
 pub returns-in-Err-clause-spelled : goal.returns-in-Err-clause-spelled
 returns-in-Err-clause-spelled g c = λ honest. refused_spelled _ _ _ _ _ _ _ NotDue (λ e. absurd cc)
@@ -76,9 +76,9 @@ returns-in-Err-clause-spelled g c = λ honest. refused_spelled _ _ _ _ _ _ _ Not
 pub returns-in_err-running : goal.returns-in_err-running
 returns-in_err-running g c =
     rw (passed_on c.from_residual.result c.in_err-running.field-0.0 c.from_residual.ensures.1 c.in_err-running.ensures.stopped.0) (record {
-      call = none_asked g.D.Disk.size g.D.Disk.failures g.D.Disk.honest c.args.self.now.disk;
+      call = none_asked g.D.Disk c.args.self.now.disk;
       rest = refl;
-      moves = stopped_moves (facts_of g.D.Disk.failures c.args.self.now) (to_flush c.args.page) c.in_err-running.ensures.stopped.1;
+      moves = stopped_moves (facts_of g.D.Disk c.args.self.now) (to_flush c.args.page) c.in_err-running.ensures.stopped.1;
       steps = λ n holds. (n, stopped_steps n (to_flush c.args.page) (ap (λ (s : Standing). s.stopped) holds.facts ∙ c.in_err-running.ensures.stopped.1), holds);
       leaves = λ n holds. leaves_none _ _ refl;
       spelled = λ honest. refused_spelled _ _ _ _ _ _ _ Stopped (λ e. absurd cc);

@@ -21,6 +21,6 @@ returns-clause-holds g c = λ n holds.
     c.install-coming.ensures.coming ∙ ap (λ (e : Engine g.row.D.Denot). coming e.checkpoint.base c.args.uuid c.args.position c.next-start.result c.args.window) c.self.view_is
     ∙ ap (λ (s : ℕ). coming old.checkpoint.base c.args.uuid c.args.position s c.args.window) (c.next-start.ensures.next ∙ ap (λ (e : Engine g.row.D.Denot). e.log.next) c.self.view_is) in
     let begins = subst (λ (k : Coming). BeginsToInstall old.checkpoint k) is (subst (λ (e : Engine g.row.D.Denot). BeginsToInstall e.checkpoint c.install-coming.result) c.self.view_is c.install-coming.ensures.begins) in
-    subst (λ (k : Coming). HoldsBoth g.D.Disk.honest g.D.Disk.history g.D.Disk.failures n (blank c.args.position c.args.window) old k) (sym is)
-    (begins_both g.D.Disk.honest g.D.Disk.history g.D.Disk.failures c.installations_stand_beside.ensures old (subst (λ (e : Engine g.row.D.Denot). IsEngine e.layout e.checkpoint e.log e.kept e.block) c.self.view_is c.self.invariant.0)
+    subst (λ (k : Coming). HoldsBoth g.D.Disk n (blank c.args.position c.args.window) old k) (sym is)
+    (begins_both g.D.Disk c.installations_stand_beside.ensures old (subst (λ (e : Engine g.row.D.Denot). IsEngine e.layout e.checkpoint e.log e.kept e.block) c.self.view_is c.self.invariant.0)
     (runs_of c.self.view_is c.if-is_some.ensures) c.args.uuid c.args.position c.args.window c.requires.off c.requires.waits c.requires.brings begins n holds)

@@ -9,41 +9,41 @@ use Rattle.rep_engine.proofs.engine.Engine.install_open.Goals as goal
 
 pub returns-in_err-install_next-clause-takes : goal.returns-in_err-install_next-clause-takes
 returns-in_err-install_next-clause-takes g c = λ n y holds.
-    not_taken g.D.Disk.honest g.D.Disk.history g.D.Disk.failures n y _ _ _ c.args.coming c.from_residual.result c.from_residual.ensures.0
+    not_taken g.D.Disk n y _ _ _ c.args.coming c.from_residual.result c.from_residual.ensures.0
     (failed n y _ _ _ _ _ c.install_next.result c.from_residual.result (subst IsErr (sym c.in_err-install_next.was) refl) c.from_residual.ensures.0
-    (write_to g.D.Disk.honest g.D.Disk.history g.D.Disk.size g.D.Disk.failures g.met.D.Disk.sized c.installations_leave_the_old_or_the_new.ensures c.installations_stand_beside.ensures c.args.self.now c.install_next.new.self c.install_next.ensures.rest c.durable.ensures.engine c.requires.runs n y c.args.coming holds
+    (write_to g.D.Disk g.met.D.Disk.sized c.installations_leave_the_old_or_the_new.ensures c.installations_stand_beside.ensures c.args.self.now c.install_next.new.self c.install_next.ensures.rest c.durable.ensures.engine c.requires.runs n y c.args.coming holds
     c.install_next.result c.install_next.ensures.call c.install_next.ensures.halted c.install_next.new.coming c.install_next.ensures.writes))
 
 pub returns-in_err-install_sync-clause-takes : goal.returns-in_err-install_sync-clause-takes
 returns-in_err-install_sync-clause-takes g c = λ n y holds.
     let w =
-    written g.D.Disk.honest g.D.Disk.history g.D.Disk.failures c.args.self.now c.install_next.new.self c.install_next.ensures.rest c.durable.ensures.engine n y c.args.coming c.install_next.new.coming c.install_next.result (subst IsOk (sym c.in_ok-install_next.was) refl)
+    written g.D.Disk c.args.self.now c.install_next.new.self c.install_next.ensures.rest c.durable.ensures.engine n y c.args.coming c.install_next.new.coming c.install_next.result (subst IsOk (sym c.in_ok-install_next.was) refl)
     c.install_next.ensures.halted c.install_next.ensures.writes c.install_next.ensures.beside
-    (write_to g.D.Disk.honest g.D.Disk.history g.D.Disk.size g.D.Disk.failures g.met.D.Disk.sized c.installations_leave_the_old_or_the_new.ensures c.installations_stand_beside.ensures c.args.self.now c.install_next.new.self c.install_next.ensures.rest c.durable.ensures.engine c.requires.runs n y c.args.coming holds
+    (write_to g.D.Disk g.met.D.Disk.sized c.installations_leave_the_old_or_the_new.ensures c.installations_stand_beside.ensures c.args.self.now c.install_next.new.self c.install_next.ensures.rest c.durable.ensures.engine c.requires.runs n y c.args.coming holds
     c.install_next.result c.install_next.ensures.call c.install_next.ensures.halted c.install_next.new.coming c.install_next.ensures.writes) in
-    not_taken g.D.Disk.honest g.D.Disk.history g.D.Disk.failures n y _ _ _ c.args.coming c.from_residual-in_err-install_sync.result c.from_residual-in_err-install_sync.ensures.0
+    not_taken g.D.Disk n y _ _ _ c.args.coming c.from_residual-in_err-install_sync.result c.from_residual-in_err-install_sync.ensures.0
     (failed_then n y _ c.install_next.new.self _ _ c.install_next.new.coming _ c.from_residual-in_err-install_sync.result c.from_residual-in_err-install_sync.ensures.0 w.super w.leaves
-    (stable_leaves g.D.Disk.honest g.D.Disk.history g.D.Disk.size g.D.Disk.failures g.met.D.Disk.sized c.installations_leave_the_old_or_the_new.ensures c.installations_stand_beside.ensures c.install_next.new.self c.install_sync.new.self c.install_sync.ensures.rest w.engine w.runs n y c.install_next.new.coming w.holds
+    (stable_leaves g.D.Disk g.met.D.Disk.sized c.installations_leave_the_old_or_the_new.ensures c.installations_stand_beside.ensures c.install_next.new.self c.install_sync.new.self c.install_sync.ensures.rest w.engine w.runs n y c.install_next.new.coming w.holds
     c.install_sync.result c.install_sync.ensures.call c.install_sync.ensures.halted c.install_sync.ensures.settles)
-    (stable_either g.D.Disk.honest g.D.Disk.history g.D.Disk.size g.D.Disk.failures g.met.D.Disk.sized c.installations_leave_the_old_or_the_new.ensures c.installations_stand_beside.ensures c.install_next.new.self c.install_sync.new.self c.install_sync.ensures.rest w.engine w.runs n y c.install_next.new.coming w.holds
+    (stable_either g.D.Disk g.met.D.Disk.sized c.installations_leave_the_old_or_the_new.ensures c.installations_stand_beside.ensures c.install_next.new.self c.install_sync.new.self c.install_sync.ensures.rest w.engine w.runs n y c.install_next.new.coming w.holds
     c.install_sync.result c.install_sync.ensures.call c.install_sync.ensures.halted c.install_sync.ensures.settles))
 
 pub returns-clause-takes : goal.returns-clause-takes
 returns-clause-takes g c = λ n y holds.
     let w =
-    written g.D.Disk.honest g.D.Disk.history g.D.Disk.failures c.args.self.now c.install_next.new.self c.install_next.ensures.rest c.durable.ensures.engine n y c.args.coming c.install_next.new.coming c.install_next.result (subst IsOk (sym c.in_ok-install_next.was) refl)
+    written g.D.Disk c.args.self.now c.install_next.new.self c.install_next.ensures.rest c.durable.ensures.engine n y c.args.coming c.install_next.new.coming c.install_next.result (subst IsOk (sym c.in_ok-install_next.was) refl)
     c.install_next.ensures.halted c.install_next.ensures.writes c.install_next.ensures.beside
-    (write_to g.D.Disk.honest g.D.Disk.history g.D.Disk.size g.D.Disk.failures g.met.D.Disk.sized c.installations_leave_the_old_or_the_new.ensures c.installations_stand_beside.ensures c.args.self.now c.install_next.new.self c.install_next.ensures.rest c.durable.ensures.engine c.requires.runs n y c.args.coming holds
+    (write_to g.D.Disk g.met.D.Disk.sized c.installations_leave_the_old_or_the_new.ensures c.installations_stand_beside.ensures c.args.self.now c.install_next.new.self c.install_next.ensures.rest c.durable.ensures.engine c.requires.runs n y c.args.coming holds
     c.install_next.result c.install_next.ensures.call c.install_next.ensures.halted c.install_next.new.coming c.install_next.ensures.writes) in
     let synced : IsOk c.install_sync.result = subst IsOk (sym c.in_ok-install_sync.was) refl in
-    takes_then g.D.Disk.honest g.D.Disk.history g.D.Disk.failures n y c.args.self.now c.install_next.new.self c.raise_to.new.self c.args.coming c.install_next.new.coming (Ok tt) w.super w.leaves
+    takes_then g.D.Disk n y c.args.self.now c.install_next.new.self c.raise_to.new.self c.args.coming c.install_next.new.coming (Ok tt) w.super w.leaves
     (record {
       holds =
-          took_place g.D.Disk.honest g.D.Disk.history g.D.Disk.size g.D.Disk.failures g.met.D.Disk.sized c.installations_leave_the_old_or_the_new.ensures c.installations_stand_beside.ensures c.install_next.new.self c.install_sync.new.self c.raise_to.new.self c.install_sync.ensures.rest w.engine w.runs n y c.install_next.new.coming w.holds
+          took_place g.D.Disk g.met.D.Disk.sized c.installations_leave_the_old_or_the_new.ensures c.installations_stand_beside.ensures c.install_next.new.self c.install_sync.new.self c.raise_to.new.self c.install_sync.ensures.rest w.engine w.runs n y c.install_next.new.coming w.holds
           c.install_sync.result c.install_sync.ensures.call c.install_sync.ensures.halted c.install_sync.ensures.settles synced (ap (λ (k : Coming). k.part) w.gone_is ∙ ap next_part c.requires.filled) w.beside (ok_of c.install_sync.result synced c.install_sync.ensures.log) c.raise_to.ensures.taken
           c.raise_to.ensures.disk c.raise_to.ensures.restarts c.installations_make_the_node.ensures c.nodes_leave_their_fronts.ensures c.images_read_as_allowed.ensures c.versions_follow_the_items.ensures;
       either = tt;
       leaves = subst (λ d. LeavesOnly (g.D.Disk.history c.install_next.new.self.disk) (g.D.Disk.history d) (MeansEither n c.install_next.new.coming.next.super y)) (sym c.raise_to.ensures.disk)
-          (stable_leaves g.D.Disk.honest g.D.Disk.history g.D.Disk.size g.D.Disk.failures g.met.D.Disk.sized c.installations_leave_the_old_or_the_new.ensures c.installations_stand_beside.ensures c.install_next.new.self c.install_sync.new.self c.install_sync.ensures.rest w.engine w.runs n y c.install_next.new.coming w.holds
+          (stable_leaves g.D.Disk g.met.D.Disk.sized c.installations_leave_the_old_or_the_new.ensures c.installations_stand_beside.ensures c.install_next.new.self c.install_sync.new.self c.install_sync.ensures.rest w.engine w.runs n y c.install_next.new.coming w.holds
           c.install_sync.result c.install_sync.ensures.call c.install_sync.ensures.halted c.install_sync.ensures.settles);
     })

@@ -18,7 +18,7 @@ invariant_of-self-2 g c =
       subst (λ (k : Log). IsEngine (layout_of c.sync.new.self) c.self.inside.checkpoint k c.self.inside.versions c.self.inside.block) (sym same)
           (subst (λ (l : Layout). IsEngine l c.self.inside.checkpoint c.self.inside.log c.self.inside.versions c.self.inside.block) (sym c.sync.ensures.layout) c.self.invariant.0),
       c.self.invariant.1,
-      λ on. pooled_as g.D.Disk.honest g.D.Disk.history (layout_of c.self.inside.cells) (layout_of c.sync.new.self) old old (disk_of c.sync.new.self) c.self.inside.pool c.sync.ensures.layout refl
-          (pooled_synced c.pools_go_on.ensures g.D.Disk.honest g.D.Disk.history old.params.rows (layout_of c.self.inside.cells) (disk_of c.self.inside.cells) (disk_of c.sync.new.self) c.self.inside.pool c.sync.result
+      λ on. pooled_as g.D.Disk (layout_of c.self.inside.cells) (layout_of c.sync.new.self) old old (disk_of c.sync.new.self) c.self.inside.pool c.sync.ensures.layout refl
+          (pooled_synced c.pools_go_on.ensures g.D.Disk old.params.rows (layout_of c.self.inside.cells) (disk_of c.self.inside.cells) (disk_of c.sync.new.self) c.self.inside.pool c.sync.result
           c.sync.ensures.call.was_honest c.sync.ensures.synced ok (c.self.invariant.2 on)),
     )

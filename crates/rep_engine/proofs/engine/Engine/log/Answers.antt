@@ -20,8 +20,8 @@ pub returns-in-Some-clause-steps : goal.returns-in-Some-clause-steps
 returns-in-Some-clause-steps g c = λ n holds.
     let old : Engine g.row.D.Denot = c.args.self.now in
     let runs : old.halted ≡ None = c.in_ok-running.ensures.runs in
-    let some : log_refusal (facts_of g.D.Disk.failures old) old.log.phase ≡ Some c.in-Some.refusal = sym c.log_refusal.ensures ∙ c.in-Some.is in
-    (n, refused_log g.D.Disk.honest g.D.Disk.history g.D.Disk.failures old n holds runs c.in-Some.refusal some, holds)
+    let some : log_refusal (facts_of g.D.Disk old) old.log.phase ≡ Some c.in-Some.refusal = sym c.log_refusal.ensures ∙ c.in-Some.is in
+    (n, refused_log g.D.Disk old n holds runs c.in-Some.refusal some, holds)
 
 -- ---- what a write did, whether the device failed or not
 
@@ -31,11 +31,11 @@ within g c = inside c.self.inside.cells c.self.inside.checkpoint c.self.inside.l
 abbrev after : (g : _) (c : After-write_next-written g) → Option Phase → Engine g.row.D.Denot
 after g c halted = inside c.write_next-written.new.cells c.self.inside.checkpoint c.write_next-written.new.log c.self.inside.versions c.self.inside.block halted
 
-written : (g : _) (c : After-write_next-written g) (halted : Option Phase) → halted ≡ halted_by c.phase-before.result c.write_next-written.result → IsLogged g.D.Disk.honest g.D.Disk.history g.D.Disk.size g.D.Disk.failures (within g c) (after g c halted) c.write_next-written.result
+written : (g : _) (c : After-write_next-written g) (halted : Option Phase) → halted ≡ halted_by c.phase-before.result c.write_next-written.result → IsLogged g.D.Disk (within g c) (after g c halted) c.write_next-written.result
 written g c halted is = record {
   engine = c.self.invariant.0;
   runs = runs_within c.self.view_is c.in_ok-running.ensures.runs;
-  none = subst (λ (e : Engine g.row.D.Denot). log_refusal (facts_of g.D.Disk.failures e) e.log.phase ≡ None) (sym c.self.view_is) (sym c.log_refusal.ensures ∙ c.in_default.is);
+  none = subst (λ (e : Engine g.row.D.Denot). log_refusal (facts_of g.D.Disk e) e.log.phase ≡ None) (sym c.self.view_is) (sym c.log_refusal.ensures ∙ c.in_default.is);
   call = c.write_next-written.ensures.call;
   writes = c.write_next-written.ensures.written;
   layout = c.write_next-written.ensures.layout;
@@ -49,10 +49,10 @@ pub invariant_of-self : goal.invariant_of-self
 invariant_of-self g c =
     let at = (goal.at.invariant_of-self g c).After-write_next-written in (
       subst (λ (l : Layout). IsEngine l c.self.inside.checkpoint c.write_next-written.new.log c.self.inside.versions c.self.inside.block) (sym c.write_next-written.ensures.layout)
-          (engine_then g.D.Disk.honest g.D.Disk.history g.D.Disk.size g.D.Disk.failures _ _ c.write_next-written.result (written g at c.halted_by-self-inside.result c.halted_by-self-inside.ensures)),
+          (engine_then g.D.Disk _ _ c.write_next-written.result (written g at c.halted_by-self-inside.result c.halted_by-self-inside.ensures)),
       c.self.invariant.1,
-      λ on. pooled_as g.D.Disk.honest g.D.Disk.history (layout_of c.self.inside.cells) (layout_of c.write_next-written.new.cells) c.self.inside.checkpoint.base c.self.inside.checkpoint.base (disk_of c.write_next-written.new.cells) c.self.inside.pool c.write_next-written.ensures.layout refl
-          (pooled_beside c.pools_go_on.ensures g.D.Disk.honest g.D.Disk.history c.self.inside.checkpoint.base.params.rows (layout_of c.self.inside.cells) _ (disk_of c.self.inside.cells) (disk_of c.write_next-written.new.cells) c.self.inside.pool c.write_next-written.result (λ number slot e. absurd cc)
+      λ on. pooled_as g.D.Disk (layout_of c.self.inside.cells) (layout_of c.write_next-written.new.cells) c.self.inside.checkpoint.base c.self.inside.checkpoint.base (disk_of c.write_next-written.new.cells) c.self.inside.pool c.write_next-written.ensures.layout refl
+          (pooled_beside c.pools_go_on.ensures g.D.Disk c.self.inside.checkpoint.base.params.rows (layout_of c.self.inside.cells) _ (disk_of c.self.inside.cells) (disk_of c.write_next-written.new.cells) c.self.inside.pool c.write_next-written.result (λ number slot e. absurd cc)
           c.write_next-written.ensures.call.was_honest c.write_next-written.ensures.inside
           (done_or_failed c.write_next-written.result c.write_next-written.ensures.written.fault (not_failed c.phase-before.result c.write_next-written.result (sym c.halted_by-self-inside.ensures ∙ on))) (c.self.invariant.2 (runs_within c.self.view_is c.in_ok-running.ensures.runs))),
     )
@@ -60,8 +60,8 @@ invariant_of-self g c =
 pub returns : goal.returns
 returns g c =
     let at = (goal.at.returns g c).After-write_next-written in
-    let k = subst (λ (e : Engine g.row.D.Denot). Logged g.D.Disk.honest g.D.Disk.history g.D.Disk.size g.D.Disk.failures e (after g at c.halted_by-self-inside.result) c.write_next-written.result) c.self.view_is
-    (it_logged g.D.Disk.honest g.D.Disk.history g.D.Disk.size g.D.Disk.failures (within g at) (after g at c.halted_by-self-inside.result) g.met.D.Disk.sized c.nodes_stay_nodes.ensures c.nodes_leave_their_fronts.ensures c.the_log_is_apart.ensures
+    let k = subst (λ (e : Engine g.row.D.Denot). Logged g.D.Disk e (after g at c.halted_by-self-inside.result) c.write_next-written.result) c.self.view_is
+    (it_logged g.D.Disk (within g at) (after g at c.halted_by-self-inside.result) g.met.D.Disk.sized c.nodes_stay_nodes.ensures c.nodes_leave_their_fronts.ensures c.the_log_is_apart.ensures
     (ap (λ (l : Layout). record (after g at c.halted_by-self-inside.result) { layout = l }) c.write_next-written.ensures.layout)
     c.write_next-written.result (written g at c.halted_by-self-inside.result c.halted_by-self-inside.ensures)) in
     record { call = k.call; moves = k.moves; steps = k.steps; rest = k.rest; unchanged = k.unchanged; fault = k.fault; memory = k.memory; log = k.log; leaves = k.leaves }
@@ -71,8 +71,8 @@ returns g c =
 pub returns-in_err-running : goal.returns-in_err-running
 returns-in_err-running g c =
     rw (passed_on c.from_residual.result c.in_err-running.field-0.0 c.from_residual.ensures.1 c.in_err-running.ensures.stopped.0) (record {
-      call = none_asked g.D.Disk.size g.D.Disk.failures g.D.Disk.honest c.args.self.now.disk;
-      moves = stopped_moves (facts_of g.D.Disk.failures c.args.self.now) to_log c.in_err-running.ensures.stopped.1;
+      call = none_asked g.D.Disk c.args.self.now.disk;
+      moves = stopped_moves (facts_of g.D.Disk c.args.self.now) to_log c.in_err-running.ensures.stopped.1;
       steps = λ n holds. (n, stopped_steps n to_log (ap (λ (s : Standing). s.stopped) holds.facts ∙ c.in_err-running.ensures.stopped.1), holds);
       rest = refl;
       unchanged = inr refl;

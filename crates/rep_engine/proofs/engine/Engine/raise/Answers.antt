@@ -16,7 +16,7 @@ invariant_of-self g c = (
       (subst (λ (b : SuperBody). PrunesIf c.synced-rose.result b.position c.self.inside.versions c.prune_if.new.versions) c.base-base.ensures.base c.prune_if.ensures)
       (c.start_at.ensures.after ∙ ap (λ (b : SuperBody). started b.start c.self.inside.log) c.base-base.ensures.base),
   c.self.invariant.1,
-  λ runs. pooled_as g.D.Disk.honest g.D.Disk.history (layout_of c.self.inside.cells) (layout_of c.self.inside.cells) c.self.inside.checkpoint.base c.synced-rose.new.self.base (disk_of c.self.inside.cells) c.self.inside.pool refl c.synced-rose.ensures.params (c.self.invariant.2 runs),
+  λ runs. pooled_as g.D.Disk (layout_of c.self.inside.cells) (layout_of c.self.inside.cells) c.self.inside.checkpoint.base c.synced-rose.new.self.base (disk_of c.self.inside.cells) c.self.inside.pool refl c.synced-rose.ensures.params (c.self.invariant.2 runs),
 )
 
 pub returns-clause-states : goal.returns-clause-states

@@ -17,7 +17,7 @@ invariant_of-self g c =
           (engine_taken (layout_of s.cells) s.checkpoint s.log c.restart.new.self s.versions c.prune.new.self s.block c.args.coming c.self.invariant.0 beside
           (subst (λ n. IsPruned n s.versions c.prune.new.self) c.position-position.ensures c.prune.ensures) (c.restart.ensures.after ∙ ap (λ n. restarted (n + 1) s.log) c.position-position.ensures)),
       c.self.invariant.1,
-      λ on. pooled_as g.D.Disk.honest g.D.Disk.history (layout_of s.cells) (layout_of s.cells) s.checkpoint.base c.into_checkpoint.result.base (disk_of s.cells) s.pool refl
+      λ on. pooled_as g.D.Disk (layout_of s.cells) (layout_of s.cells) s.checkpoint.base c.into_checkpoint.result.base (disk_of s.cells) s.pool refl
           (ap (λ (k : Checkpoint). k.base.params) c.into_checkpoint.ensures ∙ beside.coming.params) (c.self.invariant.2 on),
     )
 

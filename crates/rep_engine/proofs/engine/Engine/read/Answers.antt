@@ -17,24 +17,24 @@ use Rattle.rep_engine.proofs.engine.Engine.read.Goals as goal
 pub returns-in-Found-clause-moves : goal.returns-in-Found-clause-moves
 returns-in-Found-clause-moves g c =
     let runs = c.in_ok-running.ensures.runs in
-    row_moves g.D.Disk.honest g.D.Disk.history g.D.Disk.size g.D.Disk.failures g.met.D.Disk.sized c.args.self.now c.args.key c.args.s runs (sym c.read_refusal.ensures ∙ c.in_default.is) (Some c.copied.result) c.args.self.now refl
+    row_moves g.D.Disk g.met.D.Disk.sized c.args.self.now c.args.key c.args.s runs (sym c.read_refusal.ensures ∙ c.in_default.is) (Some c.copied.result) c.args.self.now refl
 
 pub returns-in-Found-clause-steps : goal.returns-in-Found-clause-steps
 returns-in-Found-clause-steps g c = λ n holds.
     let runs = c.in_ok-running.ensures.runs in
-    let steps = row_steps g.D.Disk.honest g.D.Disk.history g.D.Disk.size g.D.Disk.failures g.met.D.Disk.sized c.args.self.now c.args.key c.args.s runs (sym c.read_refusal.ensures ∙ c.in_default.is) c.versions_follow_the_items.ensures c.versions_lead_to_the_state.ensures n holds
+    let steps = row_steps g.D.Disk g.met.D.Disk.sized c.args.self.now c.args.key c.args.s runs (sym c.read_refusal.ensures ∙ c.in_default.is) c.versions_follow_the_items.ensures c.versions_lead_to_the_state.ensures n holds
     c.version_of.result (Some c.copied.result) c.version_of.ensures (ap Some c.copied.ensures.same ∙ sym (ap (λ (a : At). told a (n.base.content c.args.key)) c.in-Found.is)) in
     (n, steps, holds)
 
 pub returns-in-Deleted-clause-moves : goal.returns-in-Deleted-clause-moves
 returns-in-Deleted-clause-moves g c =
     let runs = c.in_ok-running.ensures.runs in
-    row_moves g.D.Disk.honest g.D.Disk.history g.D.Disk.size g.D.Disk.failures g.met.D.Disk.sized c.args.self.now c.args.key c.args.s runs (sym c.read_refusal.ensures ∙ c.in_default.is) None c.args.self.now refl
+    row_moves g.D.Disk g.met.D.Disk.sized c.args.self.now c.args.key c.args.s runs (sym c.read_refusal.ensures ∙ c.in_default.is) None c.args.self.now refl
 
 pub returns-in-Deleted-clause-steps : goal.returns-in-Deleted-clause-steps
 returns-in-Deleted-clause-steps g c = λ n holds.
     let runs = c.in_ok-running.ensures.runs in
-    let steps = row_steps g.D.Disk.honest g.D.Disk.history g.D.Disk.size g.D.Disk.failures g.met.D.Disk.sized c.args.self.now c.args.key c.args.s runs (sym c.read_refusal.ensures ∙ c.in_default.is) c.versions_follow_the_items.ensures c.versions_lead_to_the_state.ensures n holds
+    let steps = row_steps g.D.Disk g.met.D.Disk.sized c.args.self.now c.args.key c.args.s runs (sym c.read_refusal.ensures ∙ c.in_default.is) c.versions_follow_the_items.ensures c.versions_lead_to_the_state.ensures n holds
     c.version_of.result None c.version_of.ensures (sym (ap (λ (a : At). told a (n.base.content c.args.key)) c.in-Deleted.is)) in
     (n, steps, holds)
 
@@ -42,13 +42,13 @@ pub returns-in-Below-clause-moves : goal.returns-in-Below-clause-moves
 returns-in-Below-clause-moves g c =
     let runs = c.in_ok-running.ensures.runs in
     let read = c.read_base.ensures.read in
-    reads_moves g.D.Disk.honest g.D.Disk.history g.D.Disk.size g.D.Disk.failures g.met.D.Disk.sized c.args.self.now c.args.key c.args.s runs (sym c.read_refusal.ensures ∙ c.in_default.is) c.read_base.result c.read_base.new.self read
+    reads_moves g.D.Disk g.met.D.Disk.sized c.args.self.now c.args.key c.args.s runs (sym c.read_refusal.ensures ∙ c.in_default.is) c.read_base.result c.read_base.new.self read
 
 pub returns-in-Below-clause-steps : goal.returns-in-Below-clause-steps
 returns-in-Below-clause-steps g c = λ n holds.
     let runs = c.in_ok-running.ensures.runs in
     let read = c.read_base.ensures.read in
-    reads_steps g.D.Disk.honest g.D.Disk.history g.D.Disk.size g.D.Disk.failures g.met.D.Disk.sized c.args.self.now c.args.key c.args.s runs (sym c.read_refusal.ensures ∙ c.in_default.is) c.versions_follow_the_items.ensures c.versions_lead_to_the_state.ensures n holds
+    reads_steps g.D.Disk g.met.D.Disk.sized c.args.self.now c.args.key c.args.s runs (sym c.read_refusal.ensures ∙ c.in_default.is) c.versions_follow_the_items.ensures c.versions_lead_to_the_state.ensures n holds
     c.nodes_stay_nodes.ensures c.version_of.result c.version_of.ensures (ap (λ (a : At). told a (n.base.content c.args.key)) c.in-Below.is) c.read_base.result c.read_base.new.self read
 
 -- ---- what the bytes say
@@ -56,7 +56,7 @@ returns-in-Below-clause-steps g c = λ n holds.
 pub returns-in-Some-clause-spelled : goal.returns-in-Some-clause-spelled
 returns-in-Some-clause-spelled g c = λ honest.
     read_refused _ c.args.self.now.checkpoint.base c.args.self.now.kept c.args.key c.args.s c.in-Some.refusal
-    (refused_elsewise (facts_of g.D.Disk.failures c.args.self.now) c.args.key c.args.s c.in-Some.refusal (sym c.read_refusal.ensures ∙ c.in-Some.is))
+    (refused_elsewise (facts_of g.D.Disk c.args.self.now) c.args.key c.args.s c.in-Some.refusal (sym c.read_refusal.ensures ∙ c.in-Some.is))
 
 pub returns-in-Found-clause-spelled : goal.returns-in-Found-clause-spelled
 returns-in-Found-clause-spelled g c = λ honest.
@@ -77,7 +77,7 @@ returns-in-Deleted-clause-spelled g c = λ honest.
 pub returns-in-Below-clause-spelled : goal.returns-in-Below-clause-spelled
 returns-in-Below-clause-spelled g c = λ honest.
     let none = subst (IsAnswer c.args.self.now.kept c.args.key c.args.s) c.in-Below.is c.version_of.ensures in
-    let inside = row_inside (facts_of g.D.Disk.failures c.args.self.now) c.args.key c.args.s (sym c.read_refusal.ensures ∙ c.in_default.is) in
+    let inside = row_inside (facts_of g.D.Disk c.args.self.now) c.args.key c.args.s (sym c.read_refusal.ensures ∙ c.in_default.is) in
     read_below c.the_bytes_tell_the_page.ensures _ c.args.self.now.checkpoint.base c.args.self.now.kept c.args.key c.args.s c.read_base.result inside none (c.read_base.ensures.read.spelled honest (λ slot there. c.in_ok-running.ensures.readable honest (Page (row_place c.args.self.now.checkpoint.base.params.rows c.args.key).page slot)))
 
 -- ---- what a refusal leaves
@@ -95,9 +95,9 @@ returns-in-Below-clause-fault g c = fault_stops c.args.self.now c.read_base.new.
 pub returns-in_err-running : goal.returns-in_err-running
 returns-in_err-running g c =
     rw (passed_on c.from_residual.result c.in_err-running.field-0.0 c.from_residual.ensures.1 c.in_err-running.ensures.stopped.0) (record {
-      call = none_asked g.D.Disk.size g.D.Disk.failures g.D.Disk.honest c.args.self.now.disk;
+      call = none_asked g.D.Disk c.args.self.now.disk;
       rest = refl;
-      moves = stopped_moves (facts_of g.D.Disk.failures c.args.self.now) (Read c.args.key c.args.s) c.in_err-running.ensures.stopped.1;
+      moves = stopped_moves (facts_of g.D.Disk c.args.self.now) (Read c.args.key c.args.s) c.in_err-running.ensures.stopped.1;
       steps = λ n holds. (n, stopped_steps n (Read c.args.key c.args.s) (ap (λ (s : Standing). s.stopped) holds.facts ∙ c.in_err-running.ensures.stopped.1), holds);
       same = λ honest. refl;
       spelled = λ honest. read_refused _ c.args.self.now.checkpoint.base c.args.self.now.kept c.args.key c.args.s Stopped (λ e. absurd cc);

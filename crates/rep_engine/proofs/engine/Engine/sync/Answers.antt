@@ -1,6 +1,5 @@
 use Rattle.std.proofs.Common.{◌≡◌, Some, Ok, Err, refl, sym, ap, subst, ◌∙◌, inr}
 use Rattle.rep_disk.specs.Moments.{LeavesOnly}
-use Rattle.rep_disk.specs.Calls.{IsCall}
 use Rattle.rep_cells.specs.Calls.{Settles}
 use Rattle.rep_types.specs.declared.refusal.Refusal.TheVariants.{DiskFault}
 use Rattle.rep_checkpoint.specs.Standing.{Standing as Checkpoint}
@@ -26,11 +25,12 @@ use Rattle.rep_engine.proofs.Asking.{none_asked}
 use Rattle.rep_engine.proofs.Steps.{stopped_moves, stopped_steps}
 use Rattle.rep_steps.specs.Standings.{Standing}
 use Rattle.rep_disk.specs.Leaving.{leaves_none}
+use Rattle.rep_disk.specs.Devices.{Calls}
 use Rattle.rep_engine.proofs.engine.Engine.sync.Goals as goal
 
 -- ---- where the device failed
 
-failed : (g : _) (c : goal.After-self-1 g) → IsSynced g.D.Disk.honest g.D.Disk.history g.D.Disk.size g.D.Disk.failures
+failed : (g : _) (c : goal.After-self-1 g) → IsSynced g.D.Disk
     (inside c.self.inside.cells c.self.inside.checkpoint c.self.inside.log c.self.inside.versions c.self.inside.block c.self.inside.halted)
     (inside c.sync.new.self c.self.inside.checkpoint c.self.inside.log c.self.inside.versions c.self.inside.block (Some c.phase.result)) (Err DiskFault) c.sync.result
 failed g c = record {
@@ -43,15 +43,15 @@ failed g c = record {
 
 pub returns-then-is_err-clause-steps : goal.returns-then-is_err-clause-steps
 returns-then-is_err-clause-steps g c = λ n holds.
-    sync_halts g.D.Disk.honest g.D.Disk.history g.D.Disk.size g.D.Disk.failures g.met.D.Disk.sized c.the_stage_is_the_facts.ensures _ _ (Err DiskFault) c.sync.result (failed g c) n
-    (subst (λ (e : Engine g.row.D.Denot). Holds g.D.Disk.honest g.D.Disk.history g.D.Disk.failures n e) (sym c.self.view_is) holds)
+    sync_halts g.D.Disk g.met.D.Disk.sized c.the_stage_is_the_facts.ensures _ _ (Err DiskFault) c.sync.result (failed g c) n
+    (subst (λ (e : Engine g.row.D.Denot). Holds g.D.Disk n e) (sym c.self.view_is) holds)
     c.nodes_stay_nodes.ensures (c.sync.ensures.call.cause (sym c.if-is_err.ensures.value)) (record { halted = ap Some c.phase.ensures; checkpoint = refl; log = refl; block = refl })
 
 pub returns-then-is_err-clause-leaves : goal.returns-then-is_err-clause-leaves
 returns-then-is_err-clause-leaves g c = λ n holds.
     subst (λ (e : Engine g.row.D.Denot). LeavesOnly (g.D.Disk.history e.disk) (g.D.Disk.history (disk_of c.sync.new.self)) (IsFrontAt Means n)) c.self.view_is
-    (sync_leaves g.D.Disk.honest g.D.Disk.history g.D.Disk.size g.D.Disk.failures g.met.D.Disk.sized c.the_stage_is_the_facts.ensures _ _ (Err DiskFault) c.sync.result (failed g c) n
-    (subst (λ (e : Engine g.row.D.Denot). Holds g.D.Disk.honest g.D.Disk.history g.D.Disk.failures n e) (sym c.self.view_is) holds))
+    (sync_leaves g.D.Disk g.met.D.Disk.sized c.the_stage_is_the_facts.ensures _ _ (Err DiskFault) c.sync.result (failed g c) n
+    (subst (λ (e : Engine g.row.D.Denot). Holds g.D.Disk n e) (sym c.self.view_is) holds))
 
 -- ---- where it was done
 
@@ -59,12 +59,12 @@ pub invariant_of-self-else-is_err : goal.invariant_of-self-else-is_err
 invariant_of-self-else-is_err g c = (
   subst (λ (l : Layout). IsEngine l c.self.inside.checkpoint c.self.inside.log c.self.inside.versions c.self.inside.block) (sym c.sync.ensures.layout) c.self.invariant.0,
   c.self.invariant.1,
-  λ runs. pooled_as g.D.Disk.honest g.D.Disk.history (layout_of c.self.inside.cells) (layout_of c.sync.new.self) c.self.inside.checkpoint.base c.self.inside.checkpoint.base (disk_of c.sync.new.self) c.self.inside.pool c.sync.ensures.layout refl
-      (pooled_synced c.pools_go_on.ensures g.D.Disk.honest g.D.Disk.history c.self.inside.checkpoint.base.params.rows (layout_of c.self.inside.cells) (disk_of c.self.inside.cells) (disk_of c.sync.new.self) c.self.inside.pool c.sync.result
+  λ runs. pooled_as g.D.Disk (layout_of c.self.inside.cells) (layout_of c.sync.new.self) c.self.inside.checkpoint.base c.self.inside.checkpoint.base (disk_of c.sync.new.self) c.self.inside.pool c.sync.ensures.layout refl
+      (pooled_synced c.pools_go_on.ensures g.D.Disk c.self.inside.checkpoint.base.params.rows (layout_of c.self.inside.cells) (disk_of c.self.inside.cells) (disk_of c.sync.new.self) c.self.inside.pool c.sync.result
       c.sync.ensures.call.was_honest c.sync.ensures.synced c.if-is_err.ensures.negation (c.self.invariant.2 runs)),
 )
 
-done : (g : _) (c : goal.After-raise g) → IsSynced g.D.Disk.honest g.D.Disk.history g.D.Disk.size g.D.Disk.failures
+done : (g : _) (c : goal.After-raise g) → IsSynced g.D.Disk
     (inside c.self.inside.cells c.self.inside.checkpoint c.self.inside.log c.self.inside.versions c.self.inside.block c.self.inside.halted) c.raise.new.self (Ok c.settle-replies.result) c.sync.result
 done g c =
     let settled = c.settle-replies.ensures.after in
@@ -72,8 +72,8 @@ done g c =
     let disk = ap (λ (e : Engine g.row.D.Denot). e.disk) is ∙ ap (λ (e : Engine g.row.D.Denot). e.disk) settled in record {
       engine = c.self.invariant.0;
       runs = runs_within c.self.view_is c.in_ok-running.ensures.runs;
-      call = subst (λ d. IsCall g.D.Disk.size g.D.Disk.failures g.D.Disk.honest (disk_of c.self.inside.cells) d c.sync.result) (sym disk) c.sync.ensures.call;
-      settles = subst (λ d. Settles g.D.Disk.honest g.D.Disk.history (layout_of c.self.inside.cells) (disk_of c.self.inside.cells) d c.sync.result) (sym disk) c.sync.ensures.states;
+      call = subst (λ d. Calls g.D.Disk (disk_of c.self.inside.cells) d c.sync.result) (sym disk) c.sync.ensures.call;
+      settles = subst (λ d. Settles g.D.Disk (layout_of c.self.inside.cells) (disk_of c.self.inside.cells) d c.sync.result) (sym disk) c.sync.ensures.states;
       layout = ap (λ (e : Engine g.row.D.Denot). e.layout) is ∙ ap (λ (e : Engine g.row.D.Denot). e.layout) settled ∙ c.sync.ensures.layout;
     }
 
@@ -105,20 +105,20 @@ on g c =
 
 pub returns-clause-moves : goal.returns-clause-moves
 returns-clause-moves g c =
-    subst (λ (e : Engine g.row.D.Denot). Moves (facts_of g.D.Disk.failures e) to_sync (Synced c.settle-replies.result) (facts_of g.D.Disk.failures c.raise.new.self)) c.self.view_is
-    (synced_moves g.D.Disk.honest g.D.Disk.history g.D.Disk.size g.D.Disk.failures g.met.D.Disk.sized c.the_stage_is_the_facts.ensures _ _ (Ok c.settle-replies.result) c.sync.result (done g c) c.the_synced_log_is_the_facts.ensures c.settle-replies.result c.if-is_err.ensures.negation (on g c))
+    subst (λ (e : Engine g.row.D.Denot). Moves (facts_of g.D.Disk e) to_sync (Synced c.settle-replies.result) (facts_of g.D.Disk c.raise.new.self)) c.self.view_is
+    (synced_moves g.D.Disk g.met.D.Disk.sized c.the_stage_is_the_facts.ensures _ _ (Ok c.settle-replies.result) c.sync.result (done g c) c.the_synced_log_is_the_facts.ensures c.settle-replies.result c.if-is_err.ensures.negation (on g c))
 
 pub returns-clause-steps : goal.returns-clause-steps
 returns-clause-steps g c = λ n holds.
-    sync_holds g.D.Disk.honest g.D.Disk.history g.D.Disk.size g.D.Disk.failures g.met.D.Disk.sized c.the_stage_is_the_facts.ensures _ _ (Ok c.settle-replies.result) c.sync.result (done g c) n
-    (subst (λ (e : Engine g.row.D.Denot). Holds g.D.Disk.honest g.D.Disk.history g.D.Disk.failures n e) (sym c.self.view_is) holds)
+    sync_holds g.D.Disk g.met.D.Disk.sized c.the_stage_is_the_facts.ensures _ _ (Ok c.settle-replies.result) c.sync.result (done g c) n
+    (subst (λ (e : Engine g.row.D.Denot). Holds g.D.Disk n e) (sym c.self.view_is) holds)
     c.nodes_stay_nodes.ensures c.nodes_leave_their_fronts.ensures c.nodes_settle.ensures c.versions_follow_the_items.ensures c.images_read_as_allowed.ensures c.judging_goes_on.ensures c.the_synced_log_is_the_facts.ensures c.settle-replies.result c.if-is_err.ensures.negation (on g c)
 
 pub returns-clause-leaves : goal.returns-clause-leaves
 returns-clause-leaves g c = λ n holds.
     subst (λ (e : Engine g.row.D.Denot). LeavesOnly (g.D.Disk.history e.disk) (g.D.Disk.history c.raise.new.self.disk) (IsFrontAt Means n)) c.self.view_is
-    (sync_leaves g.D.Disk.honest g.D.Disk.history g.D.Disk.size g.D.Disk.failures g.met.D.Disk.sized c.the_stage_is_the_facts.ensures _ _ (Ok c.settle-replies.result) c.sync.result (done g c) n
-    (subst (λ (e : Engine g.row.D.Denot). Holds g.D.Disk.honest g.D.Disk.history g.D.Disk.failures n e) (sym c.self.view_is) holds))
+    (sync_leaves g.D.Disk g.met.D.Disk.sized c.the_stage_is_the_facts.ensures _ _ (Ok c.settle-replies.result) c.sync.result (done g c) n
+    (subst (λ (e : Engine g.row.D.Denot). Holds g.D.Disk n e) (sym c.self.view_is) holds))
 
 pub returns-clause-log : goal.returns-clause-log
 returns-clause-log g c =
@@ -134,7 +134,7 @@ returns-clause-log g c =
 pub returns-in_err-running : goal.returns-in_err-running
 returns-in_err-running g c =
     rw (passed_on c.from_residual.result c.in_err-running.field-0.0 c.from_residual.ensures.1 c.in_err-running.ensures.stopped.0) (record {
-      call = none_asked g.D.Disk.size g.D.Disk.failures g.D.Disk.honest c.args.self.now.disk;
+      call = none_asked g.D.Disk c.args.self.now.disk;
       rest = refl;
       params = refl;
       unchanged = inr refl;
@@ -142,7 +142,7 @@ returns-in_err-running g c =
       synced = λ honest. tt;
       unsynced = λ honest. refl;
       log = tt;
-      moves = stopped_moves (facts_of g.D.Disk.failures c.args.self.now) to_sync c.in_err-running.ensures.stopped.1;
+      moves = stopped_moves (facts_of g.D.Disk c.args.self.now) to_sync c.in_err-running.ensures.stopped.1;
       steps = λ n holds. (n, stopped_steps n to_sync (ap (λ (s : Standing). s.stopped) holds.facts ∙ c.in_err-running.ensures.stopped.1), holds);
       leaves = λ n holds. leaves_none _ _ refl;
     })

@@ -31,7 +31,7 @@ some_there g c below =
 pub returns-then-index-next : goal.returns-then-index-next
 returns-then-index-next g c =
     record {
-      asks = asks_none g.D.Disk.size g.D.Disk.failures g.D.Disk.honest g.D.Disk.history in_log c.args.self.now None c.in_ok-running.ensures.runs;
+      asks = asks_none g.D.Disk in_log c.args.self.now None c.in_ok-running.ensures.runs;
       none = subst (λ (e : Engine g.row.D.Denot). false ≡ nat_lt c.args.index (e.log.next - e.log.start)) c.self.view_is
           (is_past c.args.index (c.self.inside.log.next - c.self.inside.log.start) (omega (arith, c.start-first.ensures, c.next.ensures.next, c.if-index-next.true)));
       behind = λ past runs. refl;
@@ -51,7 +51,7 @@ returns-in-Ok-block_in g c =
     let some = some_there g (goal.at.returns-in-Ok-block_in g c).After-next c.if-index-next.false in
     let form = c.in-Ok-block_in.ensures.form in
     record {
-      asks = asks_found g.D.Disk.size g.D.Disk.failures g.D.Disk.honest g.D.Disk.history in_log (inside c.self.inside.cells c.self.inside.checkpoint c.self.inside.log c.self.inside.versions c.self.inside.block c.self.inside.halted) c.args.self.now (disk_of c.read_cell.new.self) (layout_of c.read_cell.new.self) c.read_cell.result c.self.view_is (runs_within c.self.view_is c.in_ok-running.ensures.runs) c.read_cell.ensures.layout c.read_cell.ensures.call c.read_cell.ensures.same (subst IsOk (sym c.in-Ok.is) refl) (Ok (Some c.in-Ok-block_in.block)) tt;
+      asks = asks_found g.D.Disk in_log (inside c.self.inside.cells c.self.inside.checkpoint c.self.inside.log c.self.inside.versions c.self.inside.block c.self.inside.halted) c.args.self.now (disk_of c.read_cell.new.self) (layout_of c.read_cell.new.self) c.read_cell.result c.self.view_is (runs_within c.self.view_is c.in_ok-running.ensures.runs) c.read_cell.ensures.layout c.read_cell.ensures.call c.read_cell.ensures.same (subst IsOk (sym c.in-Ok.is) refl) (Ok (Some c.in-Ok-block_in.block)) tt;
       none = some;
       behind = λ past runs. (let never : true ≡ false = some ∙ past in absurd cc);
       fits = λ other. subst (λ (e : Engine g.row.D.Denot). e.log.next < 2 ^ 64) c.self.view_is (omega (arith, c.next.ensures.next));
@@ -59,10 +59,10 @@ returns-in-Ok-block_in g c =
         form.0 ∙ ap (λ first. first + c.args.index) (c.start-first.ensures ∙ ap (λ (e : Engine g.row.D.Denot). e.log.start) c.self.view_is),
         subst (λ k. IsBlock k c.in-Ok-block_in.block.records) (sym form.0) form.1,
       );
-      holds = λ n holds other. holds_read g.D.Disk.size g.D.Disk.failures g.D.Disk.honest g.D.Disk.history _ c.args.self.now _ _ (Ok c.in-Ok.body) c.self.view_is (runs_within c.self.view_is c.in_ok-running.ensures.runs) c.read_cell.ensures.layout c.in-Ok.ensures.call refl c.read_cell.ensures.same n holds;
-      block = λ n holds. tail_block g.D.Disk.honest g.D.Disk.history _ c.args.self.now c.self.view_is c.args.index (c.start-first.result + c.args.index) (ap (λ first. first + c.args.index) c.start-first.ensures) c.log_of-cell.result (lies g at) _ c.block_in.result c.block_in.ensures.only g.D.Disk.failures c.self.invariant.0 (runs_within c.self.view_is c.in_ok-running.ensures.runs) (due g at) c.in-Ok.ensures.shown n holds c.images_read_as_allowed.ensures c.open_blocks_are_shown.ensures c.in-Ok-block_in.block c.in-Ok-block_in.is;
+      holds = λ n holds other. holds_read g.D.Disk _ c.args.self.now _ _ (Ok c.in-Ok.body) c.self.view_is (runs_within c.self.view_is c.in_ok-running.ensures.runs) c.read_cell.ensures.layout c.in-Ok.ensures.call refl c.read_cell.ensures.same n holds;
+      block = λ n holds. tail_block g.D.Disk _ c.args.self.now c.self.view_is c.args.index (c.start-first.result + c.args.index) (ap (λ first. first + c.args.index) c.start-first.ensures) c.log_of-cell.result (lies g at) _ c.block_in.result c.block_in.ensures.only c.self.invariant.0 (runs_within c.self.view_is c.in_ok-running.ensures.runs) (due g at) c.in-Ok.ensures.shown n holds c.images_read_as_allowed.ensures c.open_blocks_are_shown.ensures c.in-Ok-block_in.block c.in-Ok-block_in.is;
       whole = λ n holds corrupt. absurd cc;
-      spelled = λ honest. block_spelled g.D.Disk.honest g.D.Disk.history _ c.args.self.now c.self.view_is c.args.index (c.start-first.result + c.args.index) (ap (λ first. first + c.args.index) c.start-first.ensures) c.log_of-cell.result (lies g at) _ c.block_in.result c.block_in.ensures.only c.block_in.ensures.found c.in-Ok.ensures.read honest (c.in_ok-running.ensures.readable honest (log_of c.args.self.now.layout (c.args.self.now.log.start + c.args.index))) c.in-Ok-block_in.block c.in-Ok-block_in.is;
+      spelled = λ honest. block_spelled g.D.Disk _ c.args.self.now c.self.view_is c.args.index (c.start-first.result + c.args.index) (ap (λ first. first + c.args.index) c.start-first.ensures) c.log_of-cell.result (lies g at) _ c.block_in.result c.block_in.ensures.only c.block_in.ensures.found c.in-Ok.ensures.read honest (c.in_ok-running.ensures.readable honest (log_of c.args.self.now.layout (c.args.self.now.log.start + c.args.index))) c.in-Ok-block_in.block c.in-Ok-block_in.is;
     }
 
 pub returns-in-Err : goal.returns-in-Err
@@ -70,15 +70,15 @@ returns-in-Err g c =
     let at = (goal.at.returns-in-Err g c).After-block_in in
     let some = some_there g (goal.at.returns-in-Err g c).After-next c.if-index-next.false in
     record {
-      asks = asks_found g.D.Disk.size g.D.Disk.failures g.D.Disk.honest g.D.Disk.history in_log (inside c.self.inside.cells c.self.inside.checkpoint c.self.inside.log c.self.inside.versions c.self.inside.block c.self.inside.halted) c.args.self.now (disk_of c.read_cell.new.self) (layout_of c.read_cell.new.self) c.read_cell.result c.self.view_is (runs_within c.self.view_is c.in_ok-running.ensures.runs) c.read_cell.ensures.layout c.read_cell.ensures.call c.read_cell.ensures.same (subst IsOk (sym c.in-Ok.is) refl) (Err c.in-Err.refusal) c.in-Err.ensures.refused;
+      asks = asks_found g.D.Disk in_log (inside c.self.inside.cells c.self.inside.checkpoint c.self.inside.log c.self.inside.versions c.self.inside.block c.self.inside.halted) c.args.self.now (disk_of c.read_cell.new.self) (layout_of c.read_cell.new.self) c.read_cell.result c.self.view_is (runs_within c.self.view_is c.in_ok-running.ensures.runs) c.read_cell.ensures.layout c.read_cell.ensures.call c.read_cell.ensures.same (subst IsOk (sym c.in-Ok.is) refl) (Err c.in-Err.refusal) c.in-Err.ensures.refused;
       none = tt;
       behind = λ past runs. (let never : true ≡ false = some ∙ past in absurd cc);
       fits = λ other. subst (λ (e : Engine g.row.D.Denot). e.log.next < 2 ^ 64) c.self.view_is (omega (arith, c.next.ensures.next));
       form = tt;
-      holds = λ n holds other. holds_read g.D.Disk.size g.D.Disk.failures g.D.Disk.honest g.D.Disk.history _ c.args.self.now _ _ (Ok c.in-Ok.body) c.self.view_is (runs_within c.self.view_is c.in_ok-running.ensures.runs) c.read_cell.ensures.layout c.in-Ok.ensures.call refl c.read_cell.ensures.same n holds;
+      holds = λ n holds other. holds_read g.D.Disk _ c.args.self.now _ _ (Ok c.in-Ok.body) c.self.view_is (runs_within c.self.view_is c.in_ok-running.ensures.runs) c.read_cell.ensures.layout c.in-Ok.ensures.call refl c.read_cell.ensures.same n holds;
       block = λ n holds. tt;
-      whole = λ n holds corrupt. tail_whole g.D.Disk.honest g.D.Disk.history _ c.args.self.now c.self.view_is c.args.index (c.start-first.result + c.args.index) (ap (λ first. first + c.args.index) c.start-first.ensures) c.log_of-cell.result (lies g at) _ c.block_in.result c.block_in.ensures.only g.D.Disk.failures c.self.invariant.0 (runs_within c.self.view_is c.in_ok-running.ensures.runs) (due g at) c.in-Ok.ensures.shown n holds c.in-Err.refusal c.in-Err.is;
-      spelled = λ honest. none_spelled g.D.Disk.honest g.D.Disk.history _ c.args.self.now c.self.view_is c.args.index (c.start-first.result + c.args.index) (ap (λ first. first + c.args.index) c.start-first.ensures) c.log_of-cell.result (lies g at) _ c.block_in.result c.block_in.ensures.only c.block_in.ensures.found c.in-Ok.ensures.read honest (c.in_ok-running.ensures.readable honest (log_of c.args.self.now.layout (c.args.self.now.log.start + c.args.index))) c.in-Err.refusal c.in-Err.is;
+      whole = λ n holds corrupt. tail_whole g.D.Disk _ c.args.self.now c.self.view_is c.args.index (c.start-first.result + c.args.index) (ap (λ first. first + c.args.index) c.start-first.ensures) c.log_of-cell.result (lies g at) _ c.block_in.result c.block_in.ensures.only c.self.invariant.0 (runs_within c.self.view_is c.in_ok-running.ensures.runs) (due g at) c.in-Ok.ensures.shown n holds c.in-Err.refusal c.in-Err.is;
+      spelled = λ honest. none_spelled g.D.Disk _ c.args.self.now c.self.view_is c.args.index (c.start-first.result + c.args.index) (ap (λ first. first + c.args.index) c.start-first.ensures) c.log_of-cell.result (lies g at) _ c.block_in.result c.block_in.ensures.only c.block_in.ensures.found c.in-Ok.ensures.read honest (c.in_ok-running.ensures.readable honest (log_of c.args.self.now.layout (c.args.self.now.log.start + c.args.index))) c.in-Err.refusal c.in-Err.is;
     }
 
 -- ---- where the device fails
@@ -88,7 +88,7 @@ returns-in_default g c =
     let some = some_there g (goal.at.returns-in_default g c).After-next c.if-index-next.false in
     let err : IsErr c.read_cell.result = search rules in
     record {
-      asks = asks_failed g.D.Disk.size g.D.Disk.failures g.D.Disk.honest g.D.Disk.history in_log (inside c.self.inside.cells c.self.inside.checkpoint c.self.inside.log c.self.inside.versions c.self.inside.block c.self.inside.halted) c.args.self.now (disk_of c.read_cell.new.self) (layout_of c.read_cell.new.self) c.read_cell.result c.self.view_is (runs_within c.self.view_is c.in_ok-running.ensures.runs) c.read_cell.ensures.layout c.read_cell.ensures.call c.read_cell.ensures.same err c.phase.result c.phase.ensures;
+      asks = asks_failed g.D.Disk in_log (inside c.self.inside.cells c.self.inside.checkpoint c.self.inside.log c.self.inside.versions c.self.inside.block c.self.inside.halted) c.args.self.now (disk_of c.read_cell.new.self) (layout_of c.read_cell.new.self) c.read_cell.result c.self.view_is (runs_within c.self.view_is c.in_ok-running.ensures.runs) c.read_cell.ensures.layout c.read_cell.ensures.call c.read_cell.ensures.same err c.phase.result c.phase.ensures;
       none = tt;
       behind = λ past runs. (let never : true ≡ false = some ∙ past in absurd cc);
       fits = λ other. subst (λ (e : Engine g.row.D.Denot). e.log.next < 2 ^ 64) c.self.view_is (omega (arith, c.next.ensures.next));
@@ -104,7 +104,7 @@ returns-in_default g c =
 pub returns-in_err-running : goal.returns-in_err-running
 returns-in_err-running g c =
     rw (passed_on c.from_residual.result c.in_err-running.field-0.0 c.from_residual.ensures.1 c.in_err-running.ensures.stopped.0) (record {
-      asks = asks_stopped g.D.Disk.size g.D.Disk.failures g.D.Disk.honest g.D.Disk.history in_log c.args.self.now c.in_err-running.ensures.stopped.1;
+      asks = asks_stopped g.D.Disk in_log c.args.self.now c.in_err-running.ensures.stopped.1;
       none = tt;
       behind = λ past runs. absurd (not_both c.args.self.now.halted c.in_err-running.ensures.stopped.1 runs);
       fits = λ other. absurd (other refl);

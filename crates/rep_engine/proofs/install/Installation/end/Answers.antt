@@ -7,5 +7,5 @@ use Rattle.rep_engine.proofs.install.Installation.end.Goals as goal
 
 pub returns-then-is_stopped-clause-takes : goal.returns-then-is_stopped-clause-takes
 returns-then-is_stopped-clause-takes g c = λ n y.
-    subst (λ (b : Beside g.row.D.Denot). HoldsBoth g.D.Disk.honest g.D.Disk.history g.D.Disk.failures n y b.engine b.coming → TakesPlace {T = Unit {0}} {E = Refusal} g.D.Disk.honest g.D.Disk.history g.D.Disk.failures n y b.coming b.engine c.self.inside.engine (Err Stopped)) c.self.view_is
-    (still_both g.D.Disk.honest g.D.Disk.history g.D.Disk.failures n y c.self.inside.engine c.self.inside.coming Stopped)
+    subst (λ (b : Beside g.row.D.Denot). HoldsBoth g.D.Disk n y b.engine b.coming → TakesPlace {T = Unit {0}} {E = Refusal} g.D.Disk n y b.coming b.engine c.self.inside.engine (Err Stopped)) c.self.view_is
+    (still_both g.D.Disk n y c.self.inside.engine c.self.inside.coming Stopped)

@@ -12,28 +12,28 @@ use Rattle.rep_engine.proofs.install.Installation.put_page.Goals as goal
 
 pub returns-clause-written : goal.returns-clause-written
 returns-clause-written g c =
-    subst (λ (b : Beside g.row.D.Denot). b.engine.halted ≡ None → WritesComing g.D.Disk.honest g.D.Disk.history b.engine.layout b.engine.checkpoint.base b.coming c.args.page c.args.rows b.engine.disk c.install_page.new.self.disk c.install_page.result) c.self.view_is
+    subst (λ (b : Beside g.row.D.Denot). b.engine.halted ≡ None → WritesComing g.D.Disk b.engine.layout b.engine.checkpoint.base b.coming c.args.page c.args.rows b.engine.disk c.install_page.new.self.disk c.install_page.result) c.self.view_is
     (λ runs. c.install_page.ensures.puts.written)
 
 pub returns-clause-holds : goal.returns-clause-holds
 returns-clause-holds g c = λ n y.
-    subst (λ (b : Beside g.row.D.Denot). HoldsBoth g.D.Disk.honest g.D.Disk.history g.D.Disk.failures n y b.engine b.coming
-    → OnOk c.install_page.result (HoldsBoth g.D.Disk.honest g.D.Disk.history g.D.Disk.failures n (with_page b.engine.checkpoint.base.params.rows c.args.page c.args.rows y) c.install_page.new.self c.install_page.new.coming)) c.self.view_is
-    (λ holds. ok_by c.install_page.result (page_to g.D.Disk.honest g.D.Disk.history g.D.Disk.size g.D.Disk.failures g.met.D.Disk.sized c.installations_leave_the_old_or_the_new.ensures c.installations_stand_beside.ensures c.self.inside.engine c.install_page.new.self c.install_page.ensures.rest c.running.ensures.engine c.in_ok-running.ensures.runs
+    subst (λ (b : Beside g.row.D.Denot). HoldsBoth g.D.Disk n y b.engine b.coming
+    → OnOk c.install_page.result (HoldsBoth g.D.Disk n (with_page b.engine.checkpoint.base.params.rows c.args.page c.args.rows y) c.install_page.new.self c.install_page.new.coming)) c.self.view_is
+    (λ holds. ok_by c.install_page.result (page_to g.D.Disk g.met.D.Disk.sized c.installations_leave_the_old_or_the_new.ensures c.installations_stand_beside.ensures c.self.inside.engine c.install_page.new.self c.install_page.ensures.rest c.running.ensures.engine c.in_ok-running.ensures.runs
     n y c.self.inside.coming holds c.install_page.result c.install_page.ensures.call c.install_page.ensures.halted c.install_page.new.coming c.args.page c.args.rows c.install_page.ensures.puts c.self.invariant.1))
 
 pub returns-clause-halts : goal.returns-clause-halts
 returns-clause-halts g c = λ n y.
-    subst (λ (b : Beside g.row.D.Denot). HoldsBoth g.D.Disk.honest g.D.Disk.history g.D.Disk.failures n y b.engine b.coming
-    → IfErr c.install_page.result (λ e. e ≡ DiskFault → HoldsBoth g.D.Disk.honest g.D.Disk.history g.D.Disk.failures (halted_node (g.D.Disk.failures c.install_page.new.self.disk) n) y c.install_page.new.self c.install_page.new.coming)) c.self.view_is
+    subst (λ (b : Beside g.row.D.Denot). HoldsBoth g.D.Disk n y b.engine b.coming
+    → IfErr c.install_page.result (λ e. e ≡ DiskFault → HoldsBoth g.D.Disk (halted_node (g.D.Disk.failures c.install_page.new.self.disk) n) y c.install_page.new.self c.install_page.new.coming)) c.self.view_is
     (λ holds. err_by c.install_page.result (λ e is fault.
-    page_stops g.D.Disk.honest g.D.Disk.history g.D.Disk.size g.D.Disk.failures g.met.D.Disk.sized c.installations_leave_the_old_or_the_new.ensures c.installations_stand_beside.ensures c.self.inside.engine c.install_page.new.self c.install_page.ensures.rest c.running.ensures.engine c.in_ok-running.ensures.runs
+    page_stops g.D.Disk g.met.D.Disk.sized c.installations_leave_the_old_or_the_new.ensures c.installations_stand_beside.ensures c.self.inside.engine c.install_page.new.self c.install_page.ensures.rest c.running.ensures.engine c.in_ok-running.ensures.runs
     n y c.self.inside.coming holds c.install_page.result c.install_page.ensures.call c.install_page.ensures.halted c.install_page.new.coming c.args.page c.args.rows c.install_page.ensures.puts c.self.invariant.1
     (c.install_page.ensures.halted ∙ ap (halted_by c.self.inside.engine.log.phase) (is ∙ ap Err fault)) (err_of c.install_page.result e is c.install_page.ensures.puts.fault)))
 
 pub returns-clause-leaves : goal.returns-clause-leaves
 returns-clause-leaves g c = λ n y.
-    subst (λ (b : Beside g.row.D.Denot). HoldsBoth g.D.Disk.honest g.D.Disk.history g.D.Disk.failures n y b.engine b.coming
+    subst (λ (b : Beside g.row.D.Denot). HoldsBoth g.D.Disk n y b.engine b.coming
     → LeavesOnly (g.D.Disk.history b.engine.disk) (g.D.Disk.history c.install_page.new.self.disk) (IsFrontAt Means n)) c.self.view_is
-    (λ holds. page_leaves g.D.Disk.honest g.D.Disk.history g.D.Disk.size g.D.Disk.failures g.met.D.Disk.sized c.installations_leave_the_old_or_the_new.ensures c.installations_stand_beside.ensures c.self.inside.engine c.install_page.new.self.disk c.install_page.new.self.halted c.running.ensures.engine c.in_ok-running.ensures.runs
+    (λ holds. page_leaves g.D.Disk g.met.D.Disk.sized c.installations_leave_the_old_or_the_new.ensures c.installations_stand_beside.ensures c.self.inside.engine c.install_page.new.self.disk c.install_page.new.self.halted c.running.ensures.engine c.in_ok-running.ensures.runs
     n y c.self.inside.coming holds c.install_page.new.coming c.args.page c.args.rows c.install_page.result c.install_page.ensures.puts c.install_page.ensures.call c.self.invariant.1)

@@ -20,5 +20,5 @@ returns-clause-step g c = λ due.
     let filled : log.phase ≡ Filled n = sym (ap (λ (v : Standing). v.phase) c.self.view_is) ∙ c.in-Filled.is in
     let place : c.log_of.result ≡ log_of l log.next = c.log_of.ensures ∙ (ap (λ (k : Layout). log_of k c.self.inside.next) c.layout-layout.ensures ∙ ap (λ (v : Standing). log_of l v.next) c.self.view_is) in
     step_to (sym (ap (gated_in log) filled))
-    (step_at c.turns_are_taken.ensures g.D.Disk.honest g.D.Disk.history l log _ (Opening n) (λ sealed. sealed) c.log_of.result (gate_of l) (gate 0xA5) old new opening c.open_gate.result c.refusal_of.result
+    (step_at c.turns_are_taken.ensures g.D.Disk l log _ (Opening n) (λ sealed. sealed) c.log_of.result (gate_of l) (gate 0xA5) old new opening c.open_gate.result c.refusal_of.result
     refl (gate_is_due l log n filled) c.refusal_of.ensures.only place (ap (λ (v : Standing). record v { phase = Opening n }) c.self.view_is) c.refusal_of.ensures.fault c.open_gate.ensures.written c.open_gate.ensures.inside c.open_gate.ensures.states)

@@ -30,7 +30,7 @@ loop-k-init g c =
       came = omega (arith, begun.next_is);
       counted = (let none : length c.new-scan.result.items ≡ 0 = ap (λ (xs : List Judged). length xs) begun.items_are in omega (arith, begun.seqno_is, none));
       filled = omega (arith, begun.next_is, begun.seqno_is);
-      call = no_call g.D.Disk.size g.D.Disk.failures g.D.Disk.honest (disk_of c.args.cells.now);
+      call = no_call g.D.Disk (disk_of c.args.cells.now);
       same = λ honest. refl;
       progress = λ honest none. nothing_yet (reading_of l (seen (g.D.Disk.history (disk_of c.args.cells.now)))) l (c.args.position + 1) c.new-scan.result begun.items_are (begun.next_is ∙ sym begun.from_is) begun.seqno_is;
     }
@@ -60,7 +60,7 @@ loop-k-preserved g c =
       came = visits_within l_read (c.args.start + c.from.result) c.loop-k.k c.args.start some.0 c.loop-k.scan c.read_on.new.self some.1 inv.came (omega (arith, c.from.ensures));
       counted = visits_counted l_read (c.args.start + c.from.result) (c.args.position + 1) some.0 c.loop-k.scan c.read_on.new.self some.1 inv.counted;
       filled = visits_filled l_read (c.args.start + c.from.result) (c.args.position + 1) c.args.start some.0 c.loop-k.scan c.read_on.new.self some.1 inv.filled;
-      call = calls g.D.Disk.size g.D.Disk.failures g.D.Disk.honest first_disk disk (disk_of c.read_on.new.cells) inv.call c.in_ok-read_on.ensures.call;
+      call = calls g.D.Disk first_disk disk (disk_of c.read_on.new.cells) inv.call c.in_ok-read_on.ensures.call;
       same = λ honest. c.read_on.ensures.same (inv.call.stays_honest honest) ∙ inv.same honest;
       progress = λ honest none. read_goes_on c.turns_are_taken.ensures (layout_of c.loop-k.cells) l (g.D.Disk.history disk) h (c.args.position + 1) c.args.start (c.args.start + c.from.result) c.loop-k.k c.loop-k.scan c.read_on.new.self
           (omega (arith, c.loop-k-test.true)) (omega (arith, inv.limits.few, inv.stands)) (same_cells (layout_of c.loop-k.cells) l (g.D.Disk.history disk) h c.args.start (c.args.start + c.from.result) c.from.result c.loop-k.k c.loop-k.scan inv.layout (inv.same honest) refl c.from.ensures inv.from)

@@ -1,7 +1,7 @@
 use Rattle.std.proofs.Common.{◌≡◌, ◌+◌, ◌≤◌, [], length, Ok}
 use Rattle.rep_types.specs.declared.limits.TheConstants.{MAX_CELLS, MAX_SEQNO}
-use Rattle.rep_disk.specs.Calls.{IsCall}
 use Rattle.rep_disk.specs.History.{seen, failed}
+use Rattle.rep_disk.specs.Devices.{Calls}
 use Rattle.rep_cells.specs.Device.{disk_of, layout_of}
 use Rattle.rep_cells.specs.Readings.{reading_of}
 use Rattle.rep_log.specs.Scanning.{HasCells}
@@ -22,7 +22,7 @@ invariant-loop-k g l = record {
   came : l.scan.next ≤ l.start + l.k;
   counted : l.scan.seqno ≡ l.position + 1 + length l.scan.items;
   filled : l.scan.next + (l.position + 1) ≤ l.start + l.scan.seqno;
-  call : IsCall {T = Unit {0}} g.D.Disk.size g.D.Disk.failures g.D.Disk.honest (disk_of l.initial.cells) (disk_of l.cells) (Ok tt);
+  call : Calls {T = Unit {0}} g.D.Disk (disk_of l.initial.cells) (disk_of l.cells) (Ok tt);
   same : g.D.Disk.honest (disk_of l.initial.cells) → g.D.Disk.history (disk_of l.cells) ≡ g.D.Disk.history (disk_of l.initial.cells);
   progress : g.D.Disk.honest (disk_of l.initial.cells) → failed (g.D.Disk.history (disk_of l.initial.cells)) ≡ []
       → Progress (reading_of l.layout (seen (g.D.Disk.history (disk_of l.initial.cells)))) l.layout (l.position + 1) l.k l.scan;

@@ -44,8 +44,8 @@ returns-clause-step g c = λ due.
     let old = disk_of c.args.cells.now in
     let new = disk_of c.fill.new.self in
     let place : c.log_of.result ≡ log_of l log.next = c.log_of.ensures ∙ (ap (λ (k : Layout). log_of k c.self.inside.next) c.layout-layout.ensures ∙ ap (λ (v : Standing). log_of l v.next) c.self.view_is) in
-    step_at c.turns_are_taken.ensures g.D.Disk.honest g.D.Disk.history l log _ (Filling (length records)) (λ sealed. records) c.log_of.result (offset_of l) (block_bytes log.next records) old new
+    step_at c.turns_are_taken.ensures g.D.Disk l log _ (Filling (length records)) (λ sealed. records) c.log_of.result (offset_of l) (block_bytes log.next records) old new
     (filling (block_bytes log.next records)) c.fill.result c.refusal_of.result refl (seal_is_due l log records due block) c.refusal_of.ensures.only place
     (ap (λ (v : Standing). record v { phase = Filling c.len.result }) c.self.view_is ∙ ap (λ (n : ℕ). record log { phase = Filling n }) c.len.ensures.count) c.refusal_of.ensures.fault
-    (subst (λ (b : List ℕ). WritesOnly g.D.Disk.honest g.D.Disk.history (offset_of l c.log_of.result) b old new c.fill.result) body c.fill.ensures.written) c.fill.ensures.inside
-    (subst (λ (b : List ℕ). StepsAt g.D.Disk.honest g.D.Disk.history l c.log_of.result (filling b) old new c.fill.result) body c.fill.ensures.states)
+    (subst (λ (b : List ℕ). WritesOnly g.D.Disk (offset_of l c.log_of.result) b old new c.fill.result) body c.fill.ensures.written) c.fill.ensures.inside
+    (subst (λ (b : List ℕ). StepsAt g.D.Disk l c.log_of.result (filling b) old new c.fill.result) body c.fill.ensures.states)

@@ -16,9 +16,9 @@ pub look_up-row-requires : goal.look_up-row-requires
 look_up-row-requires g c = let seat = c.requires.seat in rw c.get_mut.ensures.value ((c.in_ok-desk.ensures.at.desk seat.start seat.first).works refl)
 
 -- where it is once the engine was read
-read_at : (g : Over) (c : After-look_up-row g) → AtDesk g.D.Disk.honest g.D.Disk.history g.D.Disk.failures 0 c.args.seat.now.view c.enter_desk.new.seat.view c.in_ok-desk.desk → (given : ℕ) → (given ≡ 0 → c.look_up-row.new.engine.halted ≡ None)
-    → AtDesk g.D.Disk.honest g.D.Disk.history g.D.Disk.failures given c.args.seat.now.view c.enter_desk.new.seat.view (record { engine = c.look_up-row.new.engine; publisher = c.in_ok-desk.desk.publisher; waiting = c.in_ok-desk.desk.waiting })
-read_at g c a given works = at_read g.D.Disk.honest g.D.Disk.history g.D.Disk.failures c.args.seat.now.view c.enter_desk.new.seat.view c.in_ok-desk.desk c.look_up-row.new.engine a (rw c.get_mut.ensures.value at c.look_up-row.ensures.still) (rw c.get_mut.ensures.value at c.look_up-row.ensures.taken) given works
+read_at : (g : Over) (c : After-look_up-row g) → AtDesk g.D.Disk 0 c.args.seat.now.view c.enter_desk.new.seat.view c.in_ok-desk.desk → (given : ℕ) → (given ≡ 0 → c.look_up-row.new.engine.halted ≡ None)
+    → AtDesk g.D.Disk given c.args.seat.now.view c.enter_desk.new.seat.view (record { engine = c.look_up-row.new.engine; publisher = c.in_ok-desk.desk.publisher; waiting = c.in_ok-desk.desk.waiting })
+read_at g c a given works = at_read g.D.Disk c.args.seat.now.view c.enter_desk.new.seat.view c.in_ok-desk.desk c.look_up-row.new.engine a (rw c.get_mut.ensures.value at c.look_up-row.ensures.still) (rw c.get_mut.ensures.value at c.look_up-row.ensures.taken) given works
 
 -- ---- the device failed
 
@@ -32,7 +32,7 @@ pub returns-then-is_stopped-clause-asked : goal.returns-then-is_stopped-clause-a
 returns-then-is_stopped-clause-asked g c =
     inr (λ s is. record {
       desk = c.in_ok-desk.desk;
-      here = desk_grown g.D.Disk.honest g.D.Disk.history g.D.Disk.failures s 0 c.enter_desk.new.seat.view.seen c.give_desk_up.new.seat.view.seen c.in_ok-desk.desk (c.in_ok-desk.ensures.at.desk s is) c.give_desk_up.ensures.seen;
+      here = desk_grown g.D.Disk s 0 c.enter_desk.new.seat.view.seen c.give_desk_up.new.seat.view.seen c.in_ok-desk.desk (c.in_ok-desk.ensures.at.desk s is) c.give_desk_up.ensures.seen;
       behind = c.look_up-row.new.engine;
       moves = (rw c.get_mut.ensures.value at c.look_up-row.ensures.moves);
     })
@@ -47,7 +47,7 @@ pub returns-then-is_stopped-clause-row : goal.returns-then-is_stopped-clause-row
 returns-then-is_stopped-clause-row g c = only_err _ c.look_up-row.result DiskFault (faulted g (goal.at.returns-then-is_stopped-clause-row g c).After-is_stopped c.if-is_stopped.true)
 
 pub returns-then-is_stopped-clause-refused : goal.returns-then-is_stopped-clause-refused
-returns-then-is_stopped-clause-refused g c = this_err (RefusesAsked g.D.Disk.honest g.D.Disk.history g.D.Disk.failures c.args.seat.now.view c.give_desk_up.new.seat.view c.args.key c.args.at) c.look_up-row.result DiskFault (faulted g (goal.at.returns-then-is_stopped-clause-refused g c).After-is_stopped c.if-is_stopped.true) c.give_desk_up.ensures.halted
+returns-then-is_stopped-clause-refused g c = this_err (RefusesAsked g.D.Disk c.args.seat.now.view c.give_desk_up.new.seat.view c.args.key c.args.at) c.look_up-row.result DiskFault (faulted g (goal.at.returns-then-is_stopped-clause-refused g c).After-is_stopped c.if-is_stopped.true) c.give_desk_up.ensures.halted
 
 pub returns-then-is_stopped-clause-goes : goal.returns-then-is_stopped-clause-goes
 returns-then-is_stopped-clause-goes g c = λ other. absurd (other (faulted g (goal.at.returns-then-is_stopped-clause-goes g c).After-is_stopped c.if-is_stopped.true))
@@ -70,10 +70,10 @@ pub returns-clause-idle : goal.returns-clause-idle
 returns-clause-idle g c = let at = goal.at.returns-clause-idle g c in c.leave_desk.ensures.idle c.args.seat.now.view (read_at g at.After-look_up-row c.in_ok-desk.ensures.at 0 (λ _. works g at.After-is_stopped c.if-is_stopped.false))
 
 -- what lay there, as the seat sees it once it has left
-here : (g : Over) (c : After-leave_desk g) → AtDesk g.D.Disk.honest g.D.Disk.history g.D.Disk.failures 0 c.args.seat.now.view c.enter_desk.new.seat.view c.in_ok-desk.desk → (s : Start g.row.D.Denot) → c.args.seat.now.view.first ≡ values_of s → DeskAt g.D.Disk.honest g.D.Disk.history g.D.Disk.failures s 0 c.leave_desk.new.seat.view.seen c.in_ok-desk.desk
-here g c a s is = subst (λ items. DeskAt g.D.Disk.honest g.D.Disk.history g.D.Disk.failures s 0 items c.in_ok-desk.desk) (sym c.leave_desk.ensures.same.0) (a.desk s is)
+here : (g : Over) (c : After-leave_desk g) → AtDesk g.D.Disk 0 c.args.seat.now.view c.enter_desk.new.seat.view c.in_ok-desk.desk → (s : Start g.row.D.Denot) → c.args.seat.now.view.first ≡ values_of s → DeskAt g.D.Disk s 0 c.leave_desk.new.seat.view.seen c.in_ok-desk.desk
+here g c a s is = subst (λ items. DeskAt g.D.Disk s 0 items c.in_ok-desk.desk) (sym c.leave_desk.ensures.same.0) (a.desk s is)
 
-legal : (g : Over) (c : After-leave_desk g) → AtDesk g.D.Disk.honest g.D.Disk.history g.D.Disk.failures 0 c.args.seat.now.view c.enter_desk.new.seat.view c.in_ok-desk.desk → (s : Start g.row.D.Denot) → c.args.seat.now.view.first ≡ values_of s → Legal s.certifier.current c.leave_desk.new.seat.view.seen
+legal : (g : Over) (c : After-leave_desk g) → AtDesk g.D.Disk 0 c.args.seat.now.view c.enter_desk.new.seat.view c.in_ok-desk.desk → (s : Start g.row.D.Denot) → c.args.seat.now.view.first ≡ values_of s → Legal s.certifier.current c.leave_desk.new.seat.view.seen
 legal g c a s is = subst (λ items. Legal s.certifier.current items) (sym c.leave_desk.ensures.same.0) (a.at.sees.legal s is).legal
 
 pub returns-clause-asked : goal.returns-clause-asked
@@ -81,12 +81,12 @@ returns-clause-asked g c = inr (λ s is. record { desk = c.in_ok-desk.desk; here
 
 pub returns-clause-row : goal.returns-clause-row
 returns-clause-row g c = let at = (goal.at.returns-clause-row g c).After-leave_desk in
-    rows_asked g.D.Disk.honest g.D.Disk.history g.D.Disk.failures c.args.seat.now.view c.leave_desk.new.seat.view c.in_ok-desk.desk (here g at c.in_ok-desk.ensures.at) (legal g at c.in_ok-desk.ensures.at) c.args.key c.args.at c.histories_go_on.ensures c.look_up-row.result (rw c.get_mut.ensures.value at c.look_up-row.ensures.row)
+    rows_asked g.D.Disk c.args.seat.now.view c.leave_desk.new.seat.view c.in_ok-desk.desk (here g at c.in_ok-desk.ensures.at) (legal g at c.in_ok-desk.ensures.at) c.args.key c.args.at c.histories_go_on.ensures c.look_up-row.result (rw c.get_mut.ensures.value at c.look_up-row.ensures.row)
 
 pub returns-clause-refused : goal.returns-clause-refused
 returns-clause-refused g c =
     let at = goal.at.returns-clause-refused g c in
     let seat = c.requires.seat in
     let known : c.leave_desk.new.seat.view.durable ≤ durable_of c.in_ok-desk.desk.engine.log = let k = c.in_ok-desk.ensures.known in let left = c.leave_desk.ensures.same.1 in omega (arith, k, left) in
-    refusals_asked g.D.Disk.honest g.D.Disk.history g.D.Disk.failures c.args.seat.now.view c.leave_desk.new.seat.view c.in_ok-desk.desk (here g at.After-leave_desk c.in_ok-desk.ensures.at) (legal g at.After-leave_desk c.in_ok-desk.ensures.at) c.args.key c.args.at seat.start seat.first (c.requires.inside seat.start seat.first) known c.look_up-row.result
+    refusals_asked g.D.Disk c.args.seat.now.view c.leave_desk.new.seat.view c.in_ok-desk.desk (here g at.After-leave_desk c.in_ok-desk.ensures.at) (legal g at.After-leave_desk c.in_ok-desk.ensures.at) c.args.key c.args.at seat.start seat.first (c.requires.inside seat.start seat.first) known c.look_up-row.result
     (λ fault. absurd (let never : false ≡ true = sym (ap is_some (works g at.After-is_stopped c.if-is_stopped.false)) ∙ c.look_up-row.ensures.stops.0 fault in cc)) (rw c.get_mut.ensures.value at c.look_up-row.ensures.refused)

@@ -15,13 +15,13 @@ use Rattle.rep_node.proofs.node.Node.certify.Given.{Over}
 use Rattle.rep_node.proofs.node.Node.certify.Goals.{After-certifier_of-certifier}
 
 pub certifier_of-certifier-requires : goal.certifier_of-certifier-requires
-certifier_of-certifier-requires g c = certifier_found g.D.Disk.honest g.D.Disk.history g.D.Disk.failures c.args.seat.now.view.first c.args.ticket 0 c.enter.new.seat.view.durable c.enter.new.seat.view.seen c.in_ok-home.home c.in_ok-home.ensures.entered.keeps
+certifier_of-certifier-requires g c = certifier_found g.D.Disk c.args.seat.now.view.first c.args.ticket 0 c.enter.new.seat.view.durable c.enter.new.seat.view.seen c.in_ok-home.home c.in_ok-home.ensures.entered.keeps
 
 -- inside, the certifier has judged the whole history
 judged : (g : Over) (c : After-certifier_of-certifier g) → HasJudged c.requires.seat.start.certifier.current c.enter.new.seat.view.seen c.certifier_of-certifier.result.current
 judged g c = let e = c.in_ok-home.ensures.entered in let w : View (Home g.row.D.Denot) Judged = c.enter.new.seat.view in let s = c.requires.seat.start in let place = e.place refl in let number = c.requires.seat.number in
     all_judged s c.args.ticket w.seen w.durable c.certifier_of-certifier.result.current
-    (at_first g.D.Disk.honest g.D.Disk.history g.D.Disk.failures c.args.seat.now.view.first c.args.ticket 0 w.durable w.seen c.in_ok-home.home c.certifier_of-certifier.result e.keeps c.certifier_of-certifier.ensures s c.requires.seat.first) (omega arith)
+    (at_first g.D.Disk c.args.seat.now.view.first c.args.ticket 0 w.durable w.seen c.in_ok-home.home c.certifier_of-certifier.result e.keeps c.certifier_of-certifier.ensures s c.requires.seat.first) (omega arith)
 
 pub unreachable-requires : goal.unreachable-requires
 unreachable-requires g c = let j = (judged g (goal.at.unreachable-requires g c).After-certifier_of-certifier).delivered in let place = c.in_ok-home.ensures.entered.place refl in let number = c.requires.seat.number in let limit = c.requires.ticket.1 in let failed : IsErr c.judge_next.result = search rules in let most : 2 ^ 60 ≤ c.certifier_of-certifier.result.current.delivered = c.judge_next.ensures.exhausted.0 failed in omega arith
@@ -43,7 +43,7 @@ leave-requires-clause-value g c = let e = c.in_ok-home.ensures.entered in let w 
 pub returns-clause-went : goal.returns-clause-went
 returns-clause-went g c = let v : View (Home g.row.D.Denot) Judged = c.args.seat.now.view in let w : View (Home g.row.D.Denot) Judged = c.enter.new.seat.view in let u : View (Home g.row.D.Denot) Judged = c.leave.new.seat.view in
     let left : u ≡ without (Some c.in-Ok.judged) 0 (turn_of 0 w + 1) 0 0 w = ap (λ (z : Place (Home g.row.D.Denot) Judged). z.view) c.leave.ensures.seat in
-    went_through (IsLegal v.first) (AtHome g.D.Disk.honest g.D.Disk.history g.D.Disk.failures v.first) durable_in common_in 0 c.args.ticket 1 (turn_of 0 w + 1) 0 0 (Some c.in-Ok.judged) v w w u c.in_ok-home.home c.requires.free c.in_ok-home.ensures.entered (later_same w) left
+    went_through (IsLegal v.first) (AtHome g.D.Disk v.first) durable_in common_in 0 c.args.ticket 1 (turn_of 0 w + 1) 0 0 (Some c.in-Ok.judged) v w w u c.in_ok-home.home c.requires.free c.in_ok-home.ensures.entered (later_same w) left
 
 pub returns-clause-joined : goal.returns-clause-joined
 returns-clause-joined g c = let e = c.in_ok-home.ensures.entered in let v : View (Home g.row.D.Denot) Judged = c.args.seat.now.view in let w : View (Home g.row.D.Denot) Judged = c.enter.new.seat.view in let u : View (Home g.row.D.Denot) Judged = c.leave.new.seat.view in

@@ -9,7 +9,7 @@ use Rattle.rep_node.proofs.Keeps.{invariant_idle}
 use Rattle.rep_node.proofs.node.Node.check_run.Goals as goal
 
 pub invariant_of-seat : goal.invariant_of-seat
-invariant_of-seat g c = invariant_idle g.D.Disk.honest g.D.Disk.history g.D.Disk.failures c.seat.inside.seat.view c.check_seat.new.seat.view c.seat.inside.allowance c.seat.invariant c.check_seat.ensures.idle
+invariant_of-seat g c = invariant_idle g.D.Disk c.seat.inside.seat.view c.check_seat.new.seat.view c.seat.inside.allowance c.seat.invariant c.check_seat.ensures.idle
 
 pub returns-clause-idle : goal.returns-clause-idle
 returns-clause-idle g c = subst (λ (z : Place (Home g.row.D.Denot) Judged). WentIdle z.view c.check_seat.new.seat.view) c.seat.view_is c.check_seat.ensures.idle

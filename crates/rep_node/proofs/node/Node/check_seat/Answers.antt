@@ -18,7 +18,7 @@ pub returns-in_err-position-clause-due : goal.returns-in_err-position-clause-due
 returns-in_err-position-clause-due g c = λ told. let was : c.begin_checkpoint.result ≡ Err NotDue = search rules in c.begin_checkpoint.ensures.due was
 
 pub go_on-requires-clause-seat : goal.go_on-requires-clause-seat
-go_on-requires-clause-seat g c = let went = c.loop.invariant.1 in seat_still g.D.Disk.honest g.D.Disk.history g.D.Disk.failures c.args.seat.now.view c.loop.seat.view went.0.goes went.1 c.requires.seat
+go_on-requires-clause-seat g c = let went = c.loop.invariant.1 in seat_still g.D.Disk c.args.seat.now.view c.loop.seat.view went.0.goes went.1 c.requires.seat
 
 pub returns-in_err-checked-clause-idle : goal.returns-in_err-checked-clause-idle
 returns-in_err-checked-clause-idle g c = gone g (goal.at.returns-in_err-checked-clause-idle g c).After-go_on

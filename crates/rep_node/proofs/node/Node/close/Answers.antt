@@ -20,17 +20,17 @@ last g c = subst (λ (z : Place (Home g.row.D.Denot) Judged). HasAll z.view → 
 
 -- what the lock was closed with, and the replica that it makes
 closed : (g : _) (c : After-close-homes g) → (t : Start g.row.D.Denot) × (c.close-homes.result.items ≡ map Some (values_of t))
-    × ((stopped : Bool) → (stopped ≡ false → c.front-stopped.new.seat.view.halted ≡ 0) → EndsAs g.D.Disk.honest g.D.Disk.history g.D.Disk.failures c.args.seat.view (replica_of t stopped))
-closed g c = let owns = subst (λ (z : Place (Home g.row.D.Denot) Judged). Rests g.D.Disk.honest g.D.Disk.history g.D.Disk.failures z.view c.seat.inside.allowance) c.seat.view_is c.seat.invariant in
-    close_parts g.D.Disk.honest g.D.Disk.history g.D.Disk.failures c.histories_go_on.ensures c.histories_lie_between_replicas.ensures c.histories_extend_the_order.ensures c.args.seat.view c.front-stopped.new.seat.view c.close-homes.result.items
+    × ((stopped : Bool) → (stopped ≡ false → c.front-stopped.new.seat.view.halted ≡ 0) → EndsAs g.D.Disk c.args.seat.view (replica_of t stopped))
+closed g c = let owns = subst (λ (z : Place (Home g.row.D.Denot) Judged). Rests g.D.Disk z.view c.seat.inside.allowance) c.seat.view_is c.seat.invariant in
+    close_parts g.D.Disk c.histories_go_on.ensures c.histories_lie_between_replicas.ensures c.histories_extend_the_order.ensures c.args.seat.view c.front-stopped.new.seat.view c.close-homes.result.items
     (later g c) (last g c) owns.free owns.seat owns.passed c.close-homes.ensures.values (c.close-homes.ensures.stations ∙ c.self.invariant)
 
 abbrev taken : (g : _) → After-closed_values_of-certifier g → Start g.row.D.Denot
 taken g c = record { certifier = c.closed_values_of-certifier.result.0; desk = c.closed_values_of-certifier.result.1; queue = c.closed_values_of-certifier.result.2 }
 
-ends : (g : _) (c : After-close-homes g) (t : Start g.row.D.Denot) → c.close-homes.result.items ≡ map Some (values_of t) → EndsAs g.D.Disk.honest g.D.Disk.history g.D.Disk.failures c.args.seat.view (replica_of t c.front-stopped.result.halted)
+ends : (g : _) (c : After-close-homes g) (t : Start g.row.D.Denot) → c.close-homes.result.items ≡ map Some (values_of t) → EndsAs g.D.Disk c.args.seat.view (replica_of t c.front-stopped.result.halted)
 ends g c t is = let p = closed g c in
-    subst (λ (z : Start g.row.D.Denot). EndsAs g.D.Disk.honest g.D.Disk.history g.D.Disk.failures c.args.seat.view (replica_of z c.front-stopped.result.halted)) (one_end c.close-homes.result.items p.0 t p.1 is)
+    subst (λ (z : Start g.row.D.Denot). EndsAs g.D.Disk c.args.seat.view (replica_of z c.front-stopped.result.halted)) (one_end c.close-homes.result.items p.0 t p.1 is)
     (p.2 c.front-stopped.result.halted (not_halted c.front-stopped.result.halted c.front-stopped.new.seat.view.halted c.front-stopped.ensures.halted c.front-stopped.ensures.one_bit))
 
 pub closed_values_of-certifier-requires : goal.closed_values_of-certifier-requires
@@ -46,7 +46,7 @@ returns-clause-stopped g c = let f = c.front-stopped.ensures in
 
 pub returns-clause-legal : goal.returns-clause-legal
 returns-clause-legal g c = let at = (goal.at.returns-clause-legal g c).After-close-homes in
-    legal_before g.D.Disk.honest g.D.Disk.history g.D.Disk.failures c.args.seat.view c.front-stopped.new.seat.view (later g at) (last g at).1 c.close-homes.ensures.values.sees.legal
+    legal_before g.D.Disk c.args.seat.view c.front-stopped.new.seat.view (later g at) (last g at).1 c.close-homes.ensures.values.sees.legal
 
 pub returns-clause-ends : goal.returns-clause-ends
-returns-clause-ends g c = let at = goal.at.returns-clause-ends g c in subst (EndsAs g.D.Disk.honest g.D.Disk.history g.D.Disk.failures c.args.seat.view) (sym (rw c.engine_of.ensures at c.from_parts.ensures)) (ends g at.After-close-homes (taken g at.After-closed_values_of-certifier) c.closed_values_of-certifier.ensures)
+returns-clause-ends g c = let at = goal.at.returns-clause-ends g c in subst (EndsAs g.D.Disk c.args.seat.view) (sym (rw c.engine_of.ensures at c.from_parts.ensures)) (ends g at.After-close-homes (taken g at.After-closed_values_of-certifier) c.closed_values_of-certifier.ensures)

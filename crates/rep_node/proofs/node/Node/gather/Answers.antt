@@ -5,4 +5,4 @@ pub accept_next-longer-requires-clause-at : goal.accept_next-longer-requires-cla
 accept_next-longer-requires-clause-at g c = let at = c.requires.at in (at.0, at.1, c.loop.invariant.2 at.0 at.1 at.2)
 
 pub returns-clause-given : goal.returns-clause-given
-returns-clause-given g c = λ v seat a. desk_given g.D.Disk.honest g.D.Disk.history g.D.Disk.failures v c.loop.seat.view c.loop.desk (c.loop.invariant.2 v seat a)
+returns-clause-given g c = λ v seat a. desk_given g.D.Disk v c.loop.seat.view c.loop.desk (c.loop.invariant.2 v seat a)

@@ -20,11 +20,11 @@ use Rattle.rep_node.proofs.node.Node.go_on.Goals.{After-step_on-desk, In-Ok}
 
 -- what it finds
 pub step_on-desk-requires : goal.step_on-desk-requires
-step_on-desk-requires g c = let seat = c.requires.seat in record { work = (seat.start, c.enter_desk.new.seat.view.seen, desk_work g.D.Disk.honest g.D.Disk.history g.D.Disk.failures c.args.seat.now.view c.enter_desk.new.seat.view c.in_ok-desk.desk seat c.in_ok-desk.ensures.at seat.start seat.first) }
+step_on-desk-requires g c = let seat = c.requires.seat in record { work = (seat.start, c.enter_desk.new.seat.view.seen, desk_work g.D.Disk c.args.seat.now.view c.enter_desk.new.seat.view c.in_ok-desk.desk seat c.in_ok-desk.ensures.at seat.start seat.first) }
 
 -- what is left of it, where it failed
-failed : (g : Over) (c : After-step_on-desk g) → AtDesk g.D.Disk.honest g.D.Disk.history g.D.Disk.failures 1 c.args.seat.now.view c.enter_desk.new.seat.view c.step_on-desk.result.0
-failed g c = let e = c.step_on-desk.ensures in desk_moved g.D.Disk.honest g.D.Disk.history g.D.Disk.failures 0 c.args.seat.now.view c.enter_desk.new.seat.view c.in_ok-desk.desk c.in_ok-desk.ensures.at 1 c.step_on-desk.result.0 e.rises e.common (λ s is. e.given s c.enter_desk.new.seat.view.seen (desk_work g.D.Disk.honest g.D.Disk.history g.D.Disk.failures c.args.seat.now.view c.enter_desk.new.seat.view c.in_ok-desk.desk c.requires.seat c.in_ok-desk.ensures.at s is))
+failed : (g : Over) (c : After-step_on-desk g) → AtDesk g.D.Disk 1 c.args.seat.now.view c.enter_desk.new.seat.view c.step_on-desk.result.0
+failed g c = let e = c.step_on-desk.ensures in desk_moved g.D.Disk 0 c.args.seat.now.view c.enter_desk.new.seat.view c.in_ok-desk.desk c.in_ok-desk.ensures.at 1 c.step_on-desk.result.0 e.rises e.common (λ s is. e.given s c.enter_desk.new.seat.view.seen (desk_work g.D.Disk c.args.seat.now.view c.enter_desk.new.seat.view c.in_ok-desk.desk c.requires.seat c.in_ok-desk.ensures.at s is))
 
 pub give_desk_up-requires-clause-at : goal.give_desk_up-requires-clause-at
 give_desk_up-requires-clause-at g c = (c.args.seat.now.view, failed g (goal.at.give_desk_up-requires-clause-at g c).After-step_on-desk)
@@ -33,11 +33,11 @@ pub returns-in-Err-clause-idle : goal.returns-in-Err-clause-idle
 returns-in-Err-clause-idle g c = c.give_desk_up.ensures.idle c.args.seat.now.view (failed g (goal.at.returns-in-Err-clause-idle g c).After-step_on-desk)
 
 -- what lies there where it was done
-works : (g : Over) (c : In-Ok g) (s : Start g.row.D.Denot) → c.args.seat.now.view.first ≡ values_of s → AtWork g.D.Disk.honest g.D.Disk.history g.D.Disk.failures s c.enter_desk.new.seat.view.seen c.step_on-desk.result.0
-works g c s is = told_ok (AtWork g.D.Disk.honest g.D.Disk.history g.D.Disk.failures s c.enter_desk.new.seat.view.seen c.step_on-desk.result.0) c.step_on-desk.result.1 c.in-Ok.ended c.in-Ok.is (c.step_on-desk.ensures.works s c.enter_desk.new.seat.view.seen (desk_work g.D.Disk.honest g.D.Disk.history g.D.Disk.failures c.args.seat.now.view c.enter_desk.new.seat.view c.in_ok-desk.desk c.requires.seat c.in_ok-desk.ensures.at s is))
+works : (g : Over) (c : In-Ok g) (s : Start g.row.D.Denot) → c.args.seat.now.view.first ≡ values_of s → AtWork g.D.Disk s c.enter_desk.new.seat.view.seen c.step_on-desk.result.0
+works g c s is = told_ok (AtWork g.D.Disk s c.enter_desk.new.seat.view.seen c.step_on-desk.result.0) c.step_on-desk.result.1 c.in-Ok.ended c.in-Ok.is (c.step_on-desk.ensures.works s c.enter_desk.new.seat.view.seen (desk_work g.D.Disk c.args.seat.now.view c.enter_desk.new.seat.view c.in_ok-desk.desk c.requires.seat c.in_ok-desk.ensures.at s is))
 
-left : (g : Over) (c : In-Ok g) → AtDesk g.D.Disk.honest g.D.Disk.history g.D.Disk.failures 0 c.args.seat.now.view c.enter_desk.new.seat.view c.step_on-desk.result.0
-left g c = let e = c.step_on-desk.ensures in desk_moved g.D.Disk.honest g.D.Disk.history g.D.Disk.failures 0 c.args.seat.now.view c.enter_desk.new.seat.view c.in_ok-desk.desk c.in_ok-desk.ensures.at 0 c.step_on-desk.result.0 e.rises e.common (λ s is. (works g c s is).desk)
+left : (g : Over) (c : In-Ok g) → AtDesk g.D.Disk 0 c.args.seat.now.view c.enter_desk.new.seat.view c.step_on-desk.result.0
+left g c = let e = c.step_on-desk.ensures in desk_moved g.D.Disk 0 c.args.seat.now.view c.enter_desk.new.seat.view c.in_ok-desk.desk c.in_ok-desk.ensures.at 0 c.step_on-desk.result.0 e.rises e.common (λ s is. (works g c s is).desk)
 
 pub leave_desk-requires-clause-at : goal.leave_desk-requires-clause-at
 leave_desk-requires-clause-at g c = (c.args.seat.now.view, left g (goal.at.leave_desk-requires-clause-at g c).In-Ok)
@@ -67,5 +67,5 @@ returns-clause-ended g c =
     let due = due_in c.in_ok-desk.desk.engine.checkpoint.stage in
     let more : StartsWith t.seen w.seen = subst (λ l. StartsWith t.seen l) c.leave_desk.ensures.same.0 c.tell_durable.ensures.later.seen in
     let known : durable_of d.engine.log ≤ t.durable = let durable = (rw c.get.ensures at c.durable-durable.ensures.durable) in let told = c.in_ok-tell_durable.ensures.durable in omega (arith, durable, told) in
-    ends_said g.D.Disk.honest g.D.Disk.history g.D.Disk.failures c.args.seat.now.view.first w t d due c.in-Ok.ended (told_ok_so (λ (o : Option Checked). o ≡ said_of due d) c.step_on-desk.result.1 c.in-Ok.ended c.in-Ok.is e.says) (works g at)
-    (λ begins s is. told_ok (IsPruned s d) c.step_on-desk.result.1 c.in-Ok.ended c.in-Ok.is (e.pruned begins s w.seen (desk_work g.D.Disk.honest g.D.Disk.history g.D.Disk.failures c.args.seat.now.view c.enter_desk.new.seat.view c.in_ok-desk.desk c.requires.seat c.in_ok-desk.ensures.at s is))) more (rw c.get.ensures at c.durable-durable.ensures.engine) known
+    ends_said g.D.Disk c.args.seat.now.view.first w t d due c.in-Ok.ended (told_ok_so (λ (o : Option Checked). o ≡ said_of due d) c.step_on-desk.result.1 c.in-Ok.ended c.in-Ok.is e.says) (works g at)
+    (λ begins s is. told_ok (IsPruned s d) c.step_on-desk.result.1 c.in-Ok.ended c.in-Ok.is (e.pruned begins s w.seen (desk_work g.D.Disk c.args.seat.now.view c.enter_desk.new.seat.view c.in_ok-desk.desk c.requires.seat c.in_ok-desk.ensures.at s is))) more (rw c.get.ensures at c.durable-durable.ensures.engine) known

@@ -9,7 +9,7 @@ use Rattle.rep_node.proofs.Keeps.{invariant_idle}
 use Rattle.rep_node.proofs.node.Node.keep.Goals as goal
 
 pub invariant_of-seat : goal.invariant_of-seat
-invariant_of-seat g c = invariant_idle g.D.Disk.honest g.D.Disk.history g.D.Disk.failures c.seat.inside.seat.view c.keep_upto.new.seat.view c.seat.inside.allowance c.seat.invariant c.keep_upto.ensures.idle
+invariant_of-seat g c = invariant_idle g.D.Disk c.seat.inside.seat.view c.keep_upto.new.seat.view c.seat.inside.allowance c.seat.invariant c.keep_upto.ensures.idle
 
 pub returns-clause-full : goal.returns-clause-full
-returns-clause-full g c = subst (λ (z : Place (Home g.row.D.Denot) Judged). c.keep_upto.result ≡ Err LogFull → (s : Start g.row.D.Denot) → z.view.first ≡ values_of s → FoundFull g.D.Disk.honest g.D.Disk.history g.D.Disk.failures s c.keep_upto.new.seat.view) c.seat.view_is c.keep_upto.ensures.full
+returns-clause-full g c = subst (λ (z : Place (Home g.row.D.Denot) Judged). c.keep_upto.result ≡ Err LogFull → (s : Start g.row.D.Denot) → z.view.first ≡ values_of s → FoundFull g.D.Disk s c.keep_upto.new.seat.view) c.seat.view_is c.keep_upto.ensures.full

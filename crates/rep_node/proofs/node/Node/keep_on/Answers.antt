@@ -18,10 +18,10 @@ pub loop-init : goal.loop-init
 loop-init g c = (refl, went_same c.args.seat.now.view c.requires.free, refl, refl)
 
 pub keep_upto-requires-clause-seat : goal.keep_upto-requires-clause-seat
-keep_upto-requires-clause-seat g c = let went = c.loop.invariant in seat_still g.D.Disk.honest g.D.Disk.history g.D.Disk.failures c.args.seat.now.view c.loop.seat.view went.1.goes went.2 c.requires.seat
+keep_upto-requires-clause-seat g c = let went = c.loop.invariant in seat_still g.D.Disk c.args.seat.now.view c.loop.seat.view went.1.goes went.2 c.requires.seat
 
 pub check_seat-requires-clause-seat : goal.check_seat-requires-clause-seat
-check_seat-requires-clause-seat g c = let idle = kept g (goal.at.check_seat-requires-clause-seat g c).After-keep_upto in seat_still g.D.Disk.honest g.D.Disk.history g.D.Disk.failures c.args.seat.now.view c.keep_upto.new.seat.view idle.0.goes idle.1 c.requires.seat
+check_seat-requires-clause-seat g c = let idle = kept g (goal.at.check_seat-requires-clause-seat g c).After-keep_upto in seat_still g.D.Disk c.args.seat.now.view c.keep_upto.new.seat.view idle.0.goes idle.1 c.requires.seat
 
 pub returns-in-Err-check_seat-clause-idle : goal.returns-in-Err-check_seat-clause-idle
 returns-in-Err-check_seat-clause-idle g c = let at = goal.at.returns-in-Err-check_seat-clause-idle g c in checked g at.After-check_seat (kept g at.After-keep_upto)

@@ -13,7 +13,7 @@ kept : (g : Over) (c : After-keep_once g) → WentIdle c.args.seat.now.view c.ke
 kept g c = let went = c.loop.invariant in idle_on c.args.seat.now.view c.loop.seat.view c.keep_once.new.seat.view went.1 went.2 went.3 c.keep_once.ensures.idle
 
 pub keep_once-requires-clause-seat : goal.keep_once-requires-clause-seat
-keep_once-requires-clause-seat g c = let went = c.loop.invariant in seat_still g.D.Disk.honest g.D.Disk.history g.D.Disk.failures c.args.seat.now.view c.loop.seat.view went.1.goes went.2 c.requires.seat
+keep_once-requires-clause-seat g c = let went = c.loop.invariant in seat_still g.D.Disk c.args.seat.now.view c.loop.seat.view went.1.goes went.2 c.requires.seat
 
 pub returns-in_err-kept-clause-idle : goal.returns-in_err-kept-clause-idle
 returns-in_err-kept-clause-idle g c = kept g (goal.at.returns-in_err-kept-clause-idle g c).After-keep_once

@@ -13,10 +13,10 @@ use Rattle.rep_node.proofs.node.Node.queue.Goals as goal
 use Rattle.rep_node.proofs.node.Node.queue.Goals.{After-queue_of-queue}
 
 pub queue_of-queue-requires : goal.queue_of-queue-requires
-queue_of-queue-requires g c = queue_found g.D.Disk.honest g.D.Disk.history g.D.Disk.failures c.args.seat.now.view.first c.args.judged.seqno 0 c.enter.new.seat.view.durable c.enter.new.seat.view.seen c.in_ok-home.home c.in_ok-home.ensures.entered.keeps
+queue_of-queue-requires g c = queue_found g.D.Disk c.args.seat.now.view.first c.args.judged.seqno 0 c.enter.new.seat.view.durable c.enter.new.seat.view.seen c.in_ok-home.home c.in_ok-home.ensures.entered.keeps
 
 found : (g : Over) (c : After-queue_of-queue g) → QueueAt c.requires.seat.start c.args.judged.seqno c.enter.new.seat.view.seen c.queue_of-queue.result
-found g c = at_third g.D.Disk.honest g.D.Disk.history g.D.Disk.failures c.args.seat.now.view.first c.args.judged.seqno 0 c.enter.new.seat.view.durable c.enter.new.seat.view.seen c.in_ok-home.home c.queue_of-queue.result c.in_ok-home.ensures.entered.keeps c.queue_of-queue.ensures c.requires.seat.start c.requires.seat.first
+found g c = at_third g.D.Disk c.args.seat.now.view.first c.args.judged.seqno 0 c.enter.new.seat.view.durable c.enter.new.seat.view.seen c.in_ok-home.home c.queue_of-queue.result c.in_ok-home.ensures.entered.keeps c.queue_of-queue.ensures c.requires.seat.start c.requires.seat.first
 
 pub unreachable-requires : goal.unreachable-requires
 unreachable-requires g c = let at = goal.at.unreachable-requires g c in let e = c.in_ok-home.ensures.entered in let w : View (Home g.row.D.Denot) Judged = c.enter.new.seat.view in

@@ -19,8 +19,8 @@ next lets keeps table v items count place jobs rest k is h = adjoin_last job_fro
 
 pub work_all-requires-clause-ready : goal.work_all-requires-clause-ready
 work_all-requires-clause-ready g c κs within = let jobs : c.as_mut_slice.result.now ≡ c.args.jobs.items = search rules in
-    adjoin_each job_from job_to (IsJob c.args.self.now c.args.seat.now.view (length c.args.items.now)) (IsReady g.D.Disk.honest g.D.Disk.history g.D.Disk.failures c.args.self.now (length c.args.items.now)) 0 (length c.args.items.now) c.as_mut_slice.result.now
-    (λ (j : Job g.row.D.Denot) h. ready_of g.D.Disk.honest g.D.Disk.history g.D.Disk.failures c.args.self.now c.args.seat.now.view (length c.args.items.now) j c.requires.seat h)
+    adjoin_each job_from job_to (IsJob c.args.self.now c.args.seat.now.view (length c.args.items.now)) (IsReady g.D.Disk c.args.self.now (length c.args.items.now)) 0 (length c.args.items.now) c.as_mut_slice.result.now
+    (λ (j : Job g.row.D.Denot) h. ready_of g.D.Disk c.args.self.now c.args.seat.now.view (length c.args.items.now) j c.requires.seat h)
     (subst (Adjoin job_from job_to (IsJob c.args.self.now c.args.seat.now.view (length c.args.items.now)) 0 (length c.args.items.now)) (sym jobs) c.requires.jobs)
 
 pub loop-job-init : goal.loop-job-init

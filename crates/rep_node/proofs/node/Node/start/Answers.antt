@@ -6,9 +6,9 @@ use Rattle.rep_node.proofs.node.Node.start.Goals as goal
 use Rattle.rep_node.proofs.node.Node.start.Goals.{After-into_parts-certifier}
 
 runs : (g : _) (c : After-into_parts-certifier g) → IsRunning c.args.replica
-runs g c = is_running g.D.Disk.honest g.D.Disk.history g.D.Disk.failures c.args.replica c.is_stopped.result c.is_stopped.ensures c.if-is_stopped.false
+runs g c = is_running g.D.Disk c.args.replica c.is_stopped.result c.is_stopped.ensures c.if-is_stopped.false
 
-apart : (g : _) (c : After-into_parts-certifier g) → IsTakenApart g.D.Disk.honest g.D.Disk.history g.D.Disk.failures c.args.replica c.into_parts-certifier.result.0 c.into_parts-certifier.result.1 c.into_parts-certifier.result.2
+apart : (g : _) (c : After-into_parts-certifier g) → IsTakenApart g.D.Disk c.args.replica c.into_parts-certifier.result.0 c.into_parts-certifier.result.1 c.into_parts-certifier.result.2
 apart g c = let parts = c.into_parts-certifier.ensures.parts in record {
   same_certifier = parts.0;
   same_backlog = parts.1;
@@ -29,10 +29,10 @@ returns-in-Ok-clause-running g c = runs g (goal.at.returns-in-Ok-clause-running 
 
 pub from_parts-replica-requires : goal.from_parts-replica-requires
 from_parts-replica-requires g c = let at = (goal.at.from_parts-replica-requires g c).After-into_parts-certifier in let parts = c.into_parts-certifier.ensures.parts in let back = c.in-Err.ensures.refused in
-    again g.D.Disk.honest g.D.Disk.history g.D.Disk.failures c.args.replica _ _ _ (back.0 ∙ parts.0) (back.1 ∙ parts.1) (back.2 ∙ parts.2) (runs g at).inside c.into_parts-certifier.ensures.replica
+    again g.D.Disk c.args.replica _ _ _ (back.0 ∙ parts.0) (back.1 ∙ parts.1) (back.2 ∙ parts.2) (runs g at).inside c.into_parts-certifier.ensures.replica
 
 pub returns-in-Err-clause-refused : goal.returns-in-Err-clause-refused
 returns-in-Err-clause-refused g c = let at = (goal.at.returns-in-Err-clause-refused g c).After-into_parts-certifier in let parts = c.into_parts-certifier.ensures.parts in let back = c.in-Err.ensures.refused in (
-  same_replica g.D.Disk.honest g.D.Disk.history g.D.Disk.failures c.args.replica c.from_parts-replica.result _ _ _ c.from_parts-replica.ensures (back.0 ∙ parts.0) (back.1 ∙ parts.1) (back.2 ∙ parts.2) (runs g at).inside,
+  same_replica g.D.Disk c.args.replica c.from_parts-replica.result _ _ _ c.from_parts-replica.ensures (back.0 ∙ parts.0) (back.1 ∙ parts.1) (back.2 ∙ parts.2) (runs g at).inside,
   inl (refl, runs g at),
 )

@@ -12,32 +12,32 @@ use Rattle.rep_node.proofs.node.Node.submit.Goals.{After-claim-ticket, After-pac
 
 -- what the seat has come to by now
 abbrev Came : (g : Over) → ℕ → View (Home g.row.D.Denot) Judged → View (Home g.row.D.Denot) Judged → Type 0
-Came g = DrewOne g.D.Disk.honest g.D.Disk.history g.D.Disk.failures
+Came g = DrewOne g.D.Disk
 
 claimed : (g : Over) (c : After-claim-ticket g) → Came g c.claim-ticket.result c.args.seat.now.view c.claim-ticket.new.seat.view
 claimed g c = let is : c.claim-ticket.new.seat.view ≡ with_number c.claim-ticket.result c.args.seat.now.view = ap (λ (z : Place (Home g.row.D.Denot) Judged). z.view) c.claim-ticket.ensures.seat in
-    drew_begins g.D.Disk.honest g.D.Disk.history g.D.Disk.failures _ _ _ is c.requires.free c.requires.allowance c.claim-ticket.ensures.fresh c.requires.seat
+    drew_begins g.D.Disk _ _ _ is c.requires.free c.requires.allowance c.claim-ticket.ensures.fresh c.requires.seat
 
 begun : (g : Over) (c : After-paced g) → Came g c.claim-ticket.result c.args.seat.now.view c.claim-ticket.new.seat.view → Came g c.claim-ticket.result c.args.seat.now.view c.paced.new.seat.view
-begun g c before = drew_later g.D.Disk.honest g.D.Disk.history g.D.Disk.failures _ c.claim-ticket.new.seat.view c.paced.new.seat.view _ before c.paced.ensures.later
+begun g c before = drew_later g.D.Disk _ c.claim-ticket.new.seat.view c.paced.new.seat.view _ before c.paced.ensures.later
 
 near : (g : Over) (c : After-wait_durable g) → Came g c.claim-ticket.result c.args.seat.now.view c.paced.new.seat.view → Came g c.claim-ticket.result c.args.seat.now.view c.wait_durable.new.seat.view
-near g c before = drew_went g.D.Disk.honest g.D.Disk.history g.D.Disk.failures _ c.paced.new.seat.view c.wait_durable.new.seat.view _ before c.wait_durable.ensures.idle.0 c.wait_durable.ensures.idle.1
+near g c before = drew_went g.D.Disk _ c.paced.new.seat.view c.wait_durable.new.seat.view _ before c.wait_durable.ensures.idle.0 c.wait_durable.ensures.idle.1
 
 certified : (g : Over) (c : After-certify g) → Came g c.claim-ticket.result c.args.seat.now.view c.wait_durable.new.seat.view → Came g c.claim-ticket.result c.args.seat.now.view c.certify.new.seat.view
-certified g c before = drew_went g.D.Disk.honest g.D.Disk.history g.D.Disk.failures _ c.wait_durable.new.seat.view c.certify.new.seat.view _ before c.certify.ensures.went c.certify.ensures.own.0
+certified g c before = drew_went g.D.Disk _ c.wait_durable.new.seat.view c.certify.new.seat.view _ before c.certify.ensures.went c.certify.ensures.own.0
 
 judged : (g : Over) (c : After-paced-2 g) → Came g c.claim-ticket.result c.args.seat.now.view c.certify.new.seat.view → Came g c.claim-ticket.result c.args.seat.now.view c.paced-2.new.seat.view
-judged g c before = drew_later g.D.Disk.honest g.D.Disk.history g.D.Disk.failures _ c.certify.new.seat.view c.paced-2.new.seat.view _ before c.paced-2.ensures.later
+judged g c before = drew_later g.D.Disk _ c.certify.new.seat.view c.paced-2.new.seat.view _ before c.paced-2.ensures.later
 
 queued : (g : Over) (c : After-queue g) → Came g c.claim-ticket.result c.args.seat.now.view c.paced-2.new.seat.view → Came g c.claim-ticket.result c.args.seat.now.view c.queue.new.seat.view
-queued g c before = drew_went g.D.Disk.honest g.D.Disk.history g.D.Disk.failures _ c.paced-2.new.seat.view c.queue.new.seat.view _ before c.queue.ensures.went c.queue.ensures.own.0
+queued g c before = drew_went g.D.Disk _ c.paced-2.new.seat.view c.queue.new.seat.view _ before c.queue.ensures.went c.queue.ensures.own.0
 
 waits : (g : Over) (c : After-paced-3 g) → Came g c.claim-ticket.result c.args.seat.now.view c.queue.new.seat.view → Came g c.claim-ticket.result c.args.seat.now.view c.paced-3.new.seat.view
-waits g c before = drew_later g.D.Disk.honest g.D.Disk.history g.D.Disk.failures _ c.queue.new.seat.view c.paced-3.new.seat.view _ before c.paced-3.ensures.later
+waits g c before = drew_later g.D.Disk _ c.queue.new.seat.view c.paced-3.new.seat.view _ before c.paced-3.ensures.later
 
 ended : (g : Over) (c : After-wait_durable-2 g) → Came g c.claim-ticket.result c.args.seat.now.view c.paced-3.new.seat.view → Came g c.claim-ticket.result c.args.seat.now.view c.wait_durable-2.new.seat.view
-ended g c before = drew_went g.D.Disk.honest g.D.Disk.history g.D.Disk.failures _ c.paced-3.new.seat.view c.wait_durable-2.new.seat.view _ before c.wait_durable-2.ensures.idle.0 c.wait_durable-2.ensures.idle.1
+ended g c before = drew_went g.D.Disk _ c.paced-3.new.seat.view c.wait_durable-2.new.seat.view _ before c.wait_durable-2.ensures.idle.0 c.wait_durable-2.ensures.idle.1
 
 pub returns-in_err-paced-clause-drawn : goal.returns-in_err-paced-clause-drawn
 returns-in_err-paced-clause-drawn g c = let at = goal.at.returns-in_err-paced-clause-drawn g c in (c.claim-ticket.result, begun g at.After-paced (claimed g at.After-claim-ticket), search rules)

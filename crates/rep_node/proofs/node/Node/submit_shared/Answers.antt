@@ -21,7 +21,7 @@ left : (g : Over) (c : After-split_off g) → c.split_off.new.seat.view ≡ givi
 left g c = ap (λ (z : Place (Home g.row.D.Denot) Judged). z.view) (c.split_off.ensures.seat (length c.args.items.now) c.in_ok-shares.ensures.shares)
 
 pub run-end-requires-clause-seat : goal.run-end-requires-clause-seat
-run-end-requires-clause-seat g c κs within = seat_giving g.D.Disk.honest g.D.Disk.history g.D.Disk.failures (length c.args.items.now) c.args.seat.now.view c.split_off.new.seat.view (left g (goal.at.run-end-requires-clause-seat g c).After-split_off) c.requires.rests.1.seat
+run-end-requires-clause-seat g c κs within = seat_giving g.D.Disk (length c.args.items.now) c.args.seat.now.view c.split_off.new.seat.view (left g (goal.at.run-end-requires-clause-seat g c).After-split_off) c.requires.rests.1.seat
 
 pub run-end-requires-clause-free : goal.run-end-requires-clause-free
 run-end-requires-clause-free g c κs within = ap (λ (z : View (Home g.row.D.Denot) Judged). z.held) (left g (goal.at.run-end-requires-clause-free g c).After-split_off) ∙ c.requires.rests.1.free
@@ -44,7 +44,7 @@ run-end-requires-clause-jobs g c κs within = let n : ℕ = length c.args.items.
 pub returns-clause-seat : goal.returns-clause-seat
 returns-clause-seat g c = let enough = c.requires.allowance in let is = left g (goal.at.returns-clause-seat g c).After-split_off in
     let went = settled_went c.args.items.now (length c.args.items.now) (g.P.Pace.lets c.args.pace.now) c.args.keeps c.args.seat.now.view c.split_off.new.seat.view c.run-end.new.seat.view c.run-end.new.receipts.items c.run-end.result (omega arith) is c.run-end.ensures.gathered in
-    seat_goes g.D.Disk.honest g.D.Disk.history g.D.Disk.failures c.args.seat.now.view c.run-end.new.seat.view went.goes c.run-end.ensures.gathered.once c.requires.rests.1.seat
+    seat_goes g.D.Disk c.args.seat.now.view c.run-end.new.seat.view went.goes c.run-end.ensures.gathered.once c.requires.rests.1.seat
 
 pub returns-clause-sees : goal.returns-clause-sees
 returns-clause-sees g c = c.run-end.ensures.gathered.sees

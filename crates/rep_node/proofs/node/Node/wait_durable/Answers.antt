@@ -13,8 +13,8 @@ pub loop-init : goal.loop-init
 loop-init g c = (refl, later_same _)
 
 -- it is a seat of the node still, however much it learnt
-learnt : (g : Over) (v w : View (Home g.row.D.Denot) Judged) → Later v w → IsSeat g.D.Disk.honest g.D.Disk.history g.D.Disk.failures v → IsSeat g.D.Disk.honest g.D.Disk.history g.D.Disk.failures w
-learnt g v w later = seat_still g.D.Disk.honest g.D.Disk.history g.D.Disk.failures v w (goes_later v w later) (ap (λ (z : View (Home g.row.D.Denot) Judged). z.own) later.same)
+learnt : (g : Over) (v w : View (Home g.row.D.Denot) Judged) → Later v w → IsSeat g.D.Disk v → IsSeat g.D.Disk w
+learnt g v w later = seat_still g.D.Disk v w (goes_later v w later) (ap (λ (z : View (Home g.row.D.Denot) Judged). z.own) later.same)
 
 pub keep_on-kept-requires-clause-seat : goal.keep_on-kept-requires-clause-seat
 keep_on-kept-requires-clause-seat g c = learnt g c.loop.seat.view c.front-front.new.seat.view c.front-front.ensures.later (learnt g c.args.seat.now.view c.loop.seat.view c.loop.invariant.1 c.requires.seat)

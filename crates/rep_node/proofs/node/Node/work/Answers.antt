@@ -17,7 +17,7 @@ returns-in-Err g c = let inv = c.loop-place.invariant in let ready = c.requires.
         paced = inv.6;
         went = Rattle.rep_ordered.specs.GoingLaws.went_on c.args.job.now.seat.view c.loop-place.job.seat.view c.submit.new.seat.view inv.8.went drew.went;
         passed = c.submit.ensures.passed inv.8.passed;
-        part = at_refused g.D.Disk.honest g.D.Disk.history g.D.Disk.failures c.args.items.now c.args.job.now.from place c.args.job.now.to c.in-Err.ensures.drawn.0 c.index-items-place.result c.args.job.now.seat.view c.loop-place.job.seat.view c.submit.new.seat.view c.loop-place.job.receipts.items inv.8
+        part = at_refused g.D.Disk c.args.items.now c.args.job.now.from place c.args.job.now.to c.in-Err.ensures.drawn.0 c.index-items-place.result c.args.job.now.seat.view c.loop-place.job.seat.view c.submit.new.seat.view c.loop-place.job.receipts.items inv.8
             (let n = inv.8.all.count in omega arith) below at drew c.submit.ensures.joined;
         all = λ none. absurd (subst full none tt);
         stopped = c.in-Err.ensures.stopped;
@@ -38,7 +38,7 @@ loop-place-preserved g c = let inv = c.loop-place.invariant in let ready = c.req
       λ alone. c.submit.ensures.kept alone ∙ inv.5 alone,
       subst (AreLetOn (g.P.Pace.lets c.args.pace.now)) (sym items) (every_append _ c.loop-place.job.receipts.items (r ∷ []) inv.6 (c.in-Ok.ensures.paced, tt)),
       λ _. c.in-Ok.ensures.runs,
-      subst (AtPlace g.D.Disk.honest g.D.Disk.history g.D.Disk.failures c.args.items.now c.args.job.now.from (place + 1) c.args.job.now.seat.view c.submit.new.seat.view) (sym items)
-          (at_next g.D.Disk.honest g.D.Disk.history g.D.Disk.failures c.args.items.now c.args.job.now.from place c.in-Ok.seqno c.in-Ok.verdict c.index-items-place.result c.args.job.now.seat.view c.loop-place.job.seat.view c.submit.new.seat.view c.loop-place.job.receipts.items inv.8
-          (let n = inv.8.all.count in omega arith) at (subst (λ n. Rattle.rep_node.specs.Seats.DrewOne g.D.Disk.honest g.D.Disk.history g.D.Disk.failures n c.loop-place.job.seat.view c.submit.new.seat.view) (sym number) drew) c.submit.ensures.passed c.in-Ok.ensures.receipt),
+      subst (AtPlace g.D.Disk c.args.items.now c.args.job.now.from (place + 1) c.args.job.now.seat.view c.submit.new.seat.view) (sym items)
+          (at_next g.D.Disk c.args.items.now c.args.job.now.from place c.in-Ok.seqno c.in-Ok.verdict c.index-items-place.result c.args.job.now.seat.view c.loop-place.job.seat.view c.submit.new.seat.view c.loop-place.job.receipts.items inv.8
+          (let n = inv.8.all.count in omega arith) at (subst (λ n. Rattle.rep_node.specs.Seats.DrewOne g.D.Disk n c.loop-place.job.seat.view c.submit.new.seat.view) (sym number) drew) c.submit.ensures.passed c.in-Ok.ensures.receipt),
     )

@@ -12,5 +12,5 @@ returns g c =
     let v = c.self.inside.seat.view in
     let seat = c.is_one.ensures.seat in
     let own : IsReaderOf v r = subst (λ (o : Option (Watching Origin)). IfSome o (IsReaderOf v)) c.in-Some.is c.self.invariant.2 in
-    let log = origin_of g.D.Disk.honest g.D.Disk.history g.D.Disk.failures v seat r own seat.start seat.first in
+    let log = origin_of g.D.Disk v seat r own seat.start seat.first in
     c.schema.ensures seat.start.certifier log ∙ sym (ap tables_in log) ∙ ap tables_of (sym c.in-Some.is) ∙ ap (λ (z : Beside g.row.D.Denot). tables_of z.reader) c.self.view_is

@@ -10,7 +10,7 @@ use Rattle.rep_node_tests.proofs.tests.beside.ended.Goals.{After-new-pace}
 
 -- the node, its first seat and its reader, before the seat was split
 begun : (g : Over) (c : After-new-pace g) → Runs c.in-Ok.made.0 c.in-Ok.made.1 c.in-Some.reader
-begun g c = starts g.D.Disk.honest g.D.Disk.history g.D.Disk.failures c.in-Ok.made.0 c.in-Ok.made.1 c.in_ok-replica.replica c.in-Ok.made.2.items c.pop.new.self.items c.in-Some.reader _ _ _ c.in-Ok.ensures.lock c.in-Ok.ensures.view c.in-Ok.ensures.starts c.in-Some.ensures.items
+begun g c = starts g.D.Disk c.in-Ok.made.0 c.in-Ok.made.1 c.in_ok-replica.replica c.in-Ok.made.2.items c.pop.new.self.items c.in-Some.reader _ _ _ c.in-Ok.ensures.lock c.in-Ok.ensures.view c.in-Ok.ensures.starts c.in-Some.ensures.items
 
 -- a new replica has a seqno to give
 some : (g : Over) (c : After-new-pace g) → 1 ≤ c.in-Ok.made.1.view.allowance

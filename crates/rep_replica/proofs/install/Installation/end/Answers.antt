@@ -14,7 +14,7 @@ returns-then-is_stopped g c = record {
   stopped = some_by c.args.self.engine.halted (λ phase. ap (λ (r : Replica g.row.D.Denot). (r, Err Stopped)) c.give_up.ensures.replica);
   lands = λ runs. (let never : false ≡ true = sym (ap is_some runs) ∙ sym c.is_stopped.ensures ∙ c.if-is_stopped.true in absurd cc);
   told = told_of_none (g.D.Disk.failures c.args.self.engine.disk) (g.D.Disk.failures c.give_up.result.engine.disk) Stopped stopped_is_none (ap (λ (r : Replica g.row.D.Denot). g.D.Disk.failures r.engine.disk) c.give_up.ensures.replica);
-  installs = λ n y holds. either_still g.D.Disk.honest g.D.Disk.history g.D.Disk.failures n y c.args.self c.give_up.result Stopped (ap (λ (r : Replica g.row.D.Denot). r.engine) c.give_up.ensures.replica) holds;
+  installs = λ n y holds. either_still g.D.Disk n y c.args.self c.give_up.result Stopped (ap (λ (r : Replica g.row.D.Denot). r.engine) c.give_up.ensures.replica) holds;
 }
 
 -- ---- where it hasn't

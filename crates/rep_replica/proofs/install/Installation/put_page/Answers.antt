@@ -1,7 +1,7 @@
 use Rattle.std.proofs.Common.{◌≡◌, None, Err, IfErr, IfSome, OnOk, OnErr, ap, subst, ◌∙◌}
 use Rattle.rep_types.specs.declared.refusal.Refusal.TheVariants.{DiskFault, Stopped}
-use Rattle.rep_disk.specs.Calls.{IsCall}
 use Rattle.rep_disk.specs.Moments.{LeavesOnly}
+use Rattle.rep_disk.specs.Devices.{Calls}
 use Rattle.rep_log.specs.Moves.{fault_of}
 use Rattle.rep_steps.specs.Images.{IsFrontAt}
 use Rattle.rep_image.specs.Meanings.{Means}
@@ -25,7 +25,7 @@ returns g c =
     let r = c.put_page.result in
     let e = c.put_page.ensures in
     record {
-      call = subst (λ (b : Bringing g.row.D.Denot). IsCall g.D.Disk.size g.D.Disk.failures g.D.Disk.honest b.engine.disk (new g c).engine.disk (fault_of r)) c.self.view_is e.call;
+      call = subst (λ (b : Bringing g.row.D.Denot). Calls g.D.Disk b.engine.disk (new g c).engine.disk (fault_of r)) c.self.view_is e.call;
       rest = ap (λ (x : Engine g.row.D.Denot). record (new g c) { engine = x }) e.rest
           ∙ ap (λ (b : Bringing g.row.D.Denot). record b { engine = record (b.engine) { disk = (new g c).engine.disk; halted = (new g c).engine.halted }; coming = (new g c).coming }) c.self.view_is;
       stopped = subst (λ (b : Bringing g.row.D.Denot). IfSome b.engine.halted (λ _. (r ≡ Err Stopped) × (new g c ≡ b))) c.self.view_is
@@ -33,11 +33,11 @@ returns g c =
       running = subst (λ (b : Bringing g.row.D.Denot). b.engine.halted ≡ None → ((new g c).engine.halted ≡ halted_by b.engine.log.phase r) × IfErr r (λ e. e ≡ DiskFault)) c.self.view_is e.running;
       done = subst (λ (b : Bringing g.row.D.Denot). OnOk r ((new g c).coming ≡ placed b.engine.checkpoint.base c.args.page b.coming)) c.self.view_is e.done;
       fault = subst (λ (b : Bringing g.row.D.Denot). OnErr r ((new g c).coming ≡ b.coming)) c.self.view_is e.fault;
-      written = subst (λ (b : Bringing g.row.D.Denot). b.engine.halted ≡ None → WritesComing g.D.Disk.honest g.D.Disk.history b.engine.layout b.engine.checkpoint.base b.coming c.args.page c.args.rows b.engine.disk (new g c).engine.disk r) c.self.view_is e.written;
-      holds = λ n y. subst (λ (b : Bringing g.row.D.Denot). HoldsBoth g.D.Disk.honest g.D.Disk.history g.D.Disk.failures n y b → OnOk r (HoldsBoth g.D.Disk.honest g.D.Disk.history g.D.Disk.failures n (with_page b.engine.checkpoint.base.params.rows c.args.page c.args.rows y) (new g c))) c.self.view_is
+      written = subst (λ (b : Bringing g.row.D.Denot). b.engine.halted ≡ None → WritesComing g.D.Disk b.engine.layout b.engine.checkpoint.base b.coming c.args.page c.args.rows b.engine.disk (new g c).engine.disk r) c.self.view_is e.written;
+      holds = λ n y. subst (λ (b : Bringing g.row.D.Denot). HoldsBoth g.D.Disk n y b → OnOk r (HoldsBoth g.D.Disk n (with_page b.engine.checkpoint.base.params.rows c.args.page c.args.rows y) (new g c))) c.self.view_is
           (λ holds. done_on r (e.holds n y holds.engine) (λ h. record { engine = h; judged = holds.judged; windows = holds.windows }));
-      halts = λ n y. subst (λ (b : Bringing g.row.D.Denot). HoldsBoth g.D.Disk.honest g.D.Disk.history g.D.Disk.failures n y b → IfErr r (λ e. e ≡ DiskFault → HoldsBoth g.D.Disk.honest g.D.Disk.history g.D.Disk.failures (halted_node (g.D.Disk.failures (new g c).engine.disk) n) y (new g c))) c.self.view_is
+      halts = λ n y. subst (λ (b : Bringing g.row.D.Denot). HoldsBoth g.D.Disk n y b → IfErr r (λ e. e ≡ DiskFault → HoldsBoth g.D.Disk (halted_node (g.D.Disk.failures (new g c).engine.disk) n) y (new g c))) c.self.view_is
           (λ holds. halts_on r (e.halts n y holds.engine) (λ h. record { engine = h; judged = holds.judged; windows = holds.windows }));
-      leaves = λ n y. subst (λ (b : Bringing g.row.D.Denot). HoldsBoth g.D.Disk.honest g.D.Disk.history g.D.Disk.failures n y b → LeavesOnly (g.D.Disk.history b.engine.disk) (g.D.Disk.history (new g c).engine.disk) (IsFrontAt Means n)) c.self.view_is
+      leaves = λ n y. subst (λ (b : Bringing g.row.D.Denot). HoldsBoth g.D.Disk n y b → LeavesOnly (g.D.Disk.history b.engine.disk) (g.D.Disk.history (new g c).engine.disk) (IsFrontAt Means n)) c.self.view_is
           (λ holds. e.leaves n y holds.engine);
     }

@@ -16,30 +16,30 @@ within g c = record { engine = c.self.inside.engine; backlog = c.self.inside.bac
 pub returns-clause-page : goal.returns-clause-page
 returns-clause-page g c n holds =
     subst (λ (r : Replica g.row.D.Denot). IfOk c.base_page.result (λ found. IfSome found (IsBasePage r.engine.checkpoint.base n.base.content c.args.page))) c.self.view_is
-    (base_of_all g.D.Disk.honest g.D.Disk.history g.D.Disk.failures (within g c) c.args.self.now c.self.view_is n holds
+    (base_of_all g.D.Disk (within g c) c.args.self.now c.self.view_is n holds
     (λ (S : State). IfOk c.base_page.result (λ found. IfSome found (IsBasePage c.self.inside.engine.checkpoint.base S.content c.args.page))) c.base_page.ensures.page)
 
 pub returns-clause-asks : goal.returns-clause-asks
 returns-clause-asks g c =
-    asks g.D.Disk.size g.D.Disk.failures g.D.Disk.honest g.D.Disk.history in_pages (within g c) c.args.self.now c.self.view_is (sym c.is_stopped.ensures ∙ c.if-is_stopped.false) c.base_page.new.self c.base_page.result c.base_page.ensures.asks
+    asks g.D.Disk in_pages (within g c) c.args.self.now c.self.view_is (sym c.is_stopped.ensures ∙ c.if-is_stopped.false) c.base_page.new.self c.base_page.result c.base_page.ensures.asks
 
 pub returns-clause-absent : goal.returns-clause-absent
 returns-clause-absent g c n holds =
     subst (λ (r : Replica g.row.D.Denot). r.engine.halted ≡ None → state_of_page r.engine.checkpoint.base c.args.page ≡ Nowhere → HasNoRow r.engine.checkpoint.base n.base.content c.args.page) c.self.view_is
-    (base_of_all g.D.Disk.honest g.D.Disk.history g.D.Disk.failures (within g c) c.args.self.now c.self.view_is n holds
+    (base_of_all g.D.Disk (within g c) c.args.self.now c.self.view_is n holds
     (λ (S : State). c.self.inside.engine.halted ≡ None → state_of_page c.self.inside.engine.checkpoint.base c.args.page ≡ Nowhere → HasNoRow c.self.inside.engine.checkpoint.base S.content c.args.page) c.base_page.ensures.absent)
 
 pub returns-clause-holds : goal.returns-clause-holds
 returns-clause-holds g c n holds other =
-    holds_on g.D.Disk.size g.D.Disk.failures g.D.Disk.honest g.D.Disk.history in_pages (within g c) c.args.self.now c.self.view_is (sym c.is_stopped.ensures ∙ c.if-is_stopped.false) c.base_page.new.self c.base_page.result c.base_page.ensures.asks n
+    holds_on g.D.Disk in_pages (within g c) c.args.self.now c.self.view_is (sym c.is_stopped.ensures ∙ c.if-is_stopped.false) c.base_page.new.self c.base_page.result c.base_page.ensures.asks n
     c.base_page.ensures.holds holds other
 
 pub returns-then-is_stopped-clause-absent : goal.returns-then-is_stopped-clause-absent
-returns-then-is_stopped-clause-absent g c n holds none = absurd (holds_running g.D.Disk.honest g.D.Disk.history g.D.Disk.failures c.args.self.now n holds none (sym c.is_stopped.ensures ∙ c.if-is_stopped.true))
+returns-then-is_stopped-clause-absent g c n holds none = absurd (holds_running g.D.Disk c.args.self.now n holds none (sym c.is_stopped.ensures ∙ c.if-is_stopped.true))
 
 pub returns-clause-whole : goal.returns-clause-whole
 returns-clause-whole g c n holds =
-    base_of_all g.D.Disk.honest g.D.Disk.history g.D.Disk.failures (within g c) c.args.self.now c.self.view_is n holds (λ _. c.base_page.result ≢ Err (Corrupt in_pages)) c.base_page.ensures.whole
+    base_of_all g.D.Disk (within g c) c.args.self.now c.self.view_is n holds (λ _. c.base_page.result ≢ Err (Corrupt in_pages)) c.base_page.ensures.whole
 
 pub returns-then-is_stopped-clause-spelled : goal.returns-then-is_stopped-clause-spelled
 returns-then-is_stopped-clause-spelled g c honest = no_page _ c.args.self.now.engine.checkpoint.base c.args.page in_pages

@@ -11,20 +11,20 @@ within g c = record { engine = c.self.inside.engine; backlog = c.self.inside.bac
 
 pub returns-clause-asks : goal.returns-clause-asks
 returns-clause-asks g c =
-    asks g.D.Disk.size g.D.Disk.failures g.D.Disk.honest g.D.Disk.history in_window (within g c) c.args.self.now c.self.view_is (sym c.is_stopped.ensures ∙ c.if-is_stopped.false) c.base_window.new.self c.base_window.result c.base_window.ensures.asks
+    asks g.D.Disk in_window (within g c) c.args.self.now c.self.view_is (sym c.is_stopped.ensures ∙ c.if-is_stopped.false) c.base_window.new.self c.base_window.result c.base_window.ensures.asks
 
 pub returns-clause-window : goal.returns-clause-window
 returns-clause-window g c n holds =
-    base_of_all g.D.Disk.honest g.D.Disk.history g.D.Disk.failures (within g c) c.args.self.now c.self.view_is n holds (λ (S : State). IfOk c.base_window.result (λ w. w.kept ≡ S.kept)) c.base_window.ensures.window
+    base_of_all g.D.Disk (within g c) c.args.self.now c.self.view_is n holds (λ (S : State). IfOk c.base_window.result (λ w. w.kept ≡ S.kept)) c.base_window.ensures.window
 
 pub returns-clause-holds : goal.returns-clause-holds
 returns-clause-holds g c n holds other =
-    holds_on g.D.Disk.size g.D.Disk.failures g.D.Disk.honest g.D.Disk.history in_window (within g c) c.args.self.now c.self.view_is (sym c.is_stopped.ensures ∙ c.if-is_stopped.false) c.base_window.new.self c.base_window.result c.base_window.ensures.asks n
+    holds_on g.D.Disk in_window (within g c) c.args.self.now c.self.view_is (sym c.is_stopped.ensures ∙ c.if-is_stopped.false) c.base_window.new.self c.base_window.result c.base_window.ensures.asks n
     c.base_window.ensures.holds holds other
 
 pub returns-clause-whole : goal.returns-clause-whole
 returns-clause-whole g c n holds =
-    base_of_all g.D.Disk.honest g.D.Disk.history g.D.Disk.failures (within g c) c.args.self.now c.self.view_is n holds (λ _. c.base_window.result ≢ Err (Corrupt in_window)) c.base_window.ensures.whole
+    base_of_all g.D.Disk (within g c) c.args.self.now c.self.view_is n holds (λ _. c.base_window.result ≢ Err (Corrupt in_window)) c.base_window.ensures.whole
 
 pub returns-then-is_stopped-clause-spelled : goal.returns-then-is_stopped-clause-spelled
 returns-then-is_stopped-clause-spelled g c honest = no_window _ c.args.self.now.engine.checkpoint.base in_window

@@ -32,15 +32,15 @@ new g c = record { engine = c.check.new.self; backlog = c.self.inside.backlog; c
 
 pub invariant_of-self : goal.invariant_of-self
 invariant_of-self g c =
-    replica_keeps (engine_facts g.D.Disk.failures c.self.inside.engine) (engine_facts g.D.Disk.failures c.check.new.self) c.self.inside.backlog c.self.inside.certifier.current c.self.inside.stopped (runs_inside c.self.view_is c.requires.running).0
-    (check_keeps (engine_facts g.D.Disk.failures c.self.inside.engine) (engine_facts g.D.Disk.failures c.check.new.self) (checked c.check.result) c.check.ensures.moves) c.self.invariant
+    replica_keeps (engine_facts g.D.Disk c.self.inside.engine) (engine_facts g.D.Disk c.check.new.self) c.self.inside.backlog c.self.inside.certifier.current c.self.inside.stopped (runs_inside c.self.view_is c.requires.running).0
+    (check_keeps (engine_facts g.D.Disk c.self.inside.engine) (engine_facts g.D.Disk c.check.new.self) (checked c.check.result) c.check.ensures.moves) c.self.invariant
 
 pub returns : goal.returns
 returns g c =
     let block = ap (λ (x : Engine g.row.D.Denot). x.block) c.check.ensures.rest in
-    let step = check_step g.D.Disk.honest g.D.Disk.history g.D.Disk.failures c.nodes_stay_nodes.ensures c.judging_goes_on.ensures c.parts_step_as_the_whole.ensures (old g c) (new g c) (checked c.check.result) c.check.ensures.params refl refl refl (runs_inside c.self.view_is c.requires.running).0
+    let step = check_step g.D.Disk c.nodes_stay_nodes.ensures c.judging_goes_on.ensures c.parts_step_as_the_whole.ensures (old g c) (new g c) (checked c.check.result) c.check.ensures.params refl refl refl (runs_inside c.self.view_is c.requires.running).0
     block c.check.ensures.moves (λ n holds window. c.check.ensures.steps n holds (λ off. window)) c.check.ensures.leaves c.self.invariant.askable in
-    subst (λ (r : Replica g.row.D.Denot). IsStep g.D.Disk.honest g.D.Disk.history g.D.Disk.failures r Check c.checked.result (new g c)) c.self.view_is
-    (subst (λ (a : Answer). IsStep g.D.Disk.honest g.D.Disk.history g.D.Disk.failures (old g c) Check a (new g c)) (sym c.checked.ensures)
-    (as_step g.D.Disk.honest g.D.Disk.history g.D.Disk.failures (old g c) Check (checked c.check.result) (new g c) step (c.check.ensures.call.stays_honest, c.check.ensures.call.was_honest)
+    subst (λ (r : Replica g.row.D.Denot). IsStep g.D.Disk r Check c.checked.result (new g c)) c.self.view_is
+    (subst (λ (a : Answer). IsStep g.D.Disk (old g c) Check a (new g c)) (sym c.checked.ensures)
+    (as_step g.D.Disk (old g c) Check (checked c.check.result) (new g c) step (c.check.ensures.call.stays_honest, c.check.ensures.call.was_honest)
     (left_by_checked Check (old g c) (new g c) c.check.result (refused_left Check (old g c) c.check.new.self (λ fault. fault) c.check.result c.check.ensures.unchanged c.check.ensures.fault)) tt))

@@ -7,10 +7,10 @@ use Rattle.rep_replica.proofs.replica.Replica.finish_checkpoint.Given as goal
 -- the steps so far, none of which was refused
 abbrev pub invariant-loop-event : goal.invariant-loop-event
 invariant-loop-event g l = record {
-  works : Works g.D.Disk.honest g.D.Disk.history g.D.Disk.failures l.initial.self l.self (Ok tt);
+  works : Works g.D.Disk l.initial.self l.self (Ok tt);
   running : IsRunning l.self;
-  rests : (facts_of g.D.Disk.failures l.initial.self).phase ≡ Resting → Rests (facts_of g.D.Disk.failures l.initial.self) (facts_of g.D.Disk.failures l.self);
+  rests : (facts_of g.D.Disk l.initial.self).phase ≡ Resting → Rests (facts_of g.D.Disk l.initial.self) (facts_of g.D.Disk l.self);
 }
 
 abbrev pub decreases-loop-event : goal.decreases-loop-event
-decreases-loop-event g l = left_of (facts_of g.D.Disk.failures l.self).stage
+decreases-loop-event g l = left_of (facts_of g.D.Disk l.self).stage

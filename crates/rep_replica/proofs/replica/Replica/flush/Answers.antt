@@ -16,21 +16,21 @@ old g c = record { engine = c.self.inside.engine; backlog = c.self.inside.backlo
 abbrev new : (g : _) (c : goal.After-wrote g) → Replica g.row.D.Denot
 new g c = record { engine = c.flush.new.self; backlog = c.self.inside.backlog; certifier = c.self.inside.certifier; stopped = c.self.inside.stopped }
 
-keeps : (g : _) (c : goal.After-wrote g) → Keep (engine_facts g.D.Disk.failures c.self.inside.engine) (engine_facts g.D.Disk.failures c.flush.new.self)
-keeps g c = flush_keeps (engine_facts g.D.Disk.failures c.self.inside.engine) (engine_facts g.D.Disk.failures c.flush.new.self) c.args.page (wrote c.flush.result) c.flush.ensures.moves
+keeps : (g : _) (c : goal.After-wrote g) → Keep (engine_facts g.D.Disk c.self.inside.engine) (engine_facts g.D.Disk c.flush.new.self)
+keeps g c = flush_keeps (engine_facts g.D.Disk c.self.inside.engine) (engine_facts g.D.Disk c.flush.new.self) c.args.page (wrote c.flush.result) c.flush.ensures.moves
 
 pub invariant_of-self : goal.invariant_of-self
 invariant_of-self g c =
-    replica_keeps (engine_facts g.D.Disk.failures c.self.inside.engine) (engine_facts g.D.Disk.failures c.flush.new.self) c.self.inside.backlog c.self.inside.certifier.current c.self.inside.stopped (runs_inside c.self.view_is c.requires.running).0 (keeps g c) c.self.invariant
+    replica_keeps (engine_facts g.D.Disk c.self.inside.engine) (engine_facts g.D.Disk c.flush.new.self) c.self.inside.backlog c.self.inside.certifier.current c.self.inside.stopped (runs_inside c.self.view_is c.requires.running).0 (keeps g c) c.self.invariant
 
 pub returns : goal.returns
 returns g c =
     let block = ap (λ (x : Engine g.row.D.Denot). x.block) c.flush.ensures.rest in
-    let step = flush_step g.D.Disk.honest g.D.Disk.history g.D.Disk.failures c.nodes_stay_nodes.ensures c.judging_goes_on.ensures c.parts_step_as_the_whole.ensures (old g c) (new g c) (wrote c.flush.result) (keeps g c).setting refl refl refl (runs_inside c.self.view_is c.requires.running).0 c.args.page
+    let step = flush_step g.D.Disk c.nodes_stay_nodes.ensures c.judging_goes_on.ensures c.parts_step_as_the_whole.ensures (old g c) (new g c) (wrote c.flush.result) (keeps g c).setting refl refl refl (runs_inside c.self.view_is c.requires.running).0 c.args.page
     block (record { moves = c.flush.ensures.moves; steps = c.flush.ensures.steps; leaves = c.flush.ensures.leaves }) in
-    subst (λ (r : Replica g.row.D.Denot). IsStep g.D.Disk.honest g.D.Disk.history g.D.Disk.failures r (Flush c.args.page) c.wrote.result (new g c)) c.self.view_is
-    (subst (λ (a : Answer). IsStep g.D.Disk.honest g.D.Disk.history g.D.Disk.failures (old g c) (Flush c.args.page) a (new g c)) (sym c.wrote.ensures)
-    (as_step g.D.Disk.honest g.D.Disk.history g.D.Disk.failures (old g c) (Flush c.args.page) (wrote c.flush.result) (new g c) step (c.flush.ensures.call.stays_honest, c.flush.ensures.call.was_honest)
+    subst (λ (r : Replica g.row.D.Denot). IsStep g.D.Disk r (Flush c.args.page) c.wrote.result (new g c)) c.self.view_is
+    (subst (λ (a : Answer). IsStep g.D.Disk (old g c) (Flush c.args.page) a (new g c)) (sym c.wrote.ensures)
+    (as_step g.D.Disk (old g c) (Flush c.args.page) (wrote c.flush.result) (new g c) step (c.flush.ensures.call.stays_honest, c.flush.ensures.call.was_honest)
     (left_by_wrote (Flush c.args.page) (old g c) (new g c) c.flush.result
     (asked_left (Flush c.args.page) (old g c) c.flush.new.self (λ fault. fault) c.flush.result c.flush.ensures.unchanged c.flush.ensures.fault))
-    (flush_spells g.D.Disk.honest g.D.Disk.history c.args.page (old g c) (new g c) c.flush.result c.flush.ensures.spelled)))
+    (flush_spells g.D.Disk c.args.page (old g c) (new g c) c.flush.result c.flush.ensures.spelled)))

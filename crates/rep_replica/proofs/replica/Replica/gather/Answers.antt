@@ -18,17 +18,17 @@ within g c =
 pub invariant_of-self-2 : goal.invariant_of-self-2
 invariant_of-self-2 g c =
     let k = c.in_ok-accept.field-0 in
-    subst (λ (js : List Judged). IsReplica (engine_facts g.D.Disk.failures c.accept.new.self) js c.self.inside.certifier.current c.self.inside.stopped) (sym c.in_ok-accept.ensures.backlog)
-    (replica_takes c.judging_goes_on.ensures (engine_facts g.D.Disk.failures c.self.inside.engine) (engine_facts g.D.Disk.failures c.accept.new.self) c.self.inside.backlog c.self.inside.certifier.current c.self.inside.stopped k (within g c)
+    subst (λ (js : List Judged). IsReplica (engine_facts g.D.Disk c.accept.new.self) js c.self.inside.certifier.current c.self.inside.stopped) (sym c.in_ok-accept.ensures.backlog)
+    (replica_takes c.judging_goes_on.ensures (engine_facts g.D.Disk c.self.inside.engine) (engine_facts g.D.Disk c.accept.new.self) c.self.inside.backlog c.self.inside.certifier.current c.self.inside.stopped k (within g c)
     c.in_ok-accept.ensures.facts c.self.invariant)
 
 pub returns-clause-holds : goal.returns-clause-holds
 returns-clause-holds g c n holds =
     let old : Replica g.row.D.Denot = record { engine = c.self.inside.engine; backlog = c.self.inside.backlog; certifier = c.self.inside.certifier; stopped = c.self.inside.stopped } in
     let new : Replica g.row.D.Denot = record { engine = c.accept.new.self; backlog = c.accept.new.backlog; certifier = c.self.inside.certifier; stopped = c.self.inside.stopped } in
-    holds_still g.D.Disk.honest g.D.Disk.history g.D.Disk.failures c.in_ok-accept.field-0 old new c.in_ok-accept.ensures.backlog refl refl
+    holds_still g.D.Disk c.in_ok-accept.field-0 old new c.in_ok-accept.ensures.backlog refl refl
     (record { within = within g c; facts = c.in_ok-accept.ensures.facts; block = c.in_ok-accept.ensures.block; holds = c.in_ok-accept.ensures.holds }) c.judging_goes_on.ensures n
-    (subst (Holds g.D.Disk.honest g.D.Disk.history g.D.Disk.failures n) (sym c.self.view_is) holds)
+    (subst (Holds g.D.Disk n) (sym c.self.view_is) holds)
 
 pub returns-clause-gathered : goal.returns-clause-gathered
 returns-clause-gathered g c rests =

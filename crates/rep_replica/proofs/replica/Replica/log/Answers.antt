@@ -28,15 +28,16 @@ use Rattle.rep_replica.proofs.Gathering.{takes_as_all}
 use Rattle.rep_replica.proofs.Refusing.{log_left}
 use Rattle.rep_replica.proofs.Stepping.{IsMoved, as_step, refusal_same, refused_step, hungry_step, log_step, step_from}
 use Rattle.rep_replica.proofs.replica.Replica.log.Goals as goal
+use Rattle.rep_disk.specs.declared.disk.Disk.{Ghosts}
 
 -- what the engine would refuse once it had accepted is what the replica refuses
-due_is : {D : Type 0} (failures : D → _) (fronts : AcceptedItemsAreAFront) (r : Replica D) → r.stopped ≡ false → r.engine.halted ≡ None → IsEngine r.engine.layout r.engine.checkpoint r.engine.log r.engine.kept r.engine.block
-    → refusal (facts_of failures r) Log ≡ refusal (record (engine_facts failures r.engine) { ahead = r.engine.block ++ take (accepted_in r.engine.log.phase r.engine.block r.backlog) r.backlog }) Log
-due_is failures fronts r running runs engine =
+due_is : {D : Type 0} (g : Ghosts D) (fronts : AcceptedItemsAreAFront) (r : Replica D) → r.stopped ≡ false → r.engine.halted ≡ None → IsEngine r.engine.layout r.engine.checkpoint r.engine.log r.engine.kept r.engine.block
+    → refusal (facts_of g r) Log ≡ refusal (record (engine_facts g r.engine) { ahead = r.engine.block ++ take (accepted_in r.engine.log.phase r.engine.block r.backlog) r.backlog }) Log
+due_is g fronts r running runs engine =
     let e = r.engine in
     let taken : List Judged = e.block ++ take (accepted_in e.log.phase e.block r.backlog) r.backlog in
-    ap (λ (s : Standing). refusal s Log) (running_facts failures r running)
-    ∙ refusal_same (with_ahead taken (engine_facts failures e)) (e.block ++ r.backlog) (λ rests. takes_as_all fronts e.log.phase e.block r.backlog engine.fits (sym (ap (phase_at e.log.phase) runs) ∙ rests))
+    ap (λ (s : Standing). refusal s Log) (running_facts g r running)
+    ∙ refusal_same (with_ahead taken (engine_facts g e)) (e.block ++ r.backlog) (λ rests. takes_as_all fronts e.log.phase e.block r.backlog engine.fits (sym (ap (phase_at e.log.phase) runs) ∙ rests))
 
 -- where nothing refuses it and it gathers, it is at rest
 rests_by : (s : Standing) (phase : Phase) → s.stopped ≡ false → refusal s Log ≡ None → s.phase ≡ phase → is_gathering phase ≡ true → takes_memory s Log ≡ true
@@ -51,23 +52,23 @@ pub returns-in-Some-clause-step : goal.returns-in-Some-clause-step
 returns-in-Some-clause-step g c =
     let r : Replica g.row.D.Denot = record { engine = c.self.inside.engine; backlog = c.self.inside.backlog; certifier = c.self.inside.certifier; stopped = c.self.inside.stopped } in
     let runs = runs_inside c.self.view_is c.requires.running in
-    let due = due_is g.D.Disk.failures c.accepted_items_are_a_front.ensures r runs.0 runs.1 c.durable-durable.ensures.engine ∙ sym c.due.ensures ∙ c.in-Some.is in
-    subst (λ (x : Replica g.row.D.Denot). IsStep g.D.Disk.honest g.D.Disk.history g.D.Disk.failures x Log (Refused c.in-Some.refusal) x) c.self.view_is
-    (refused_step g.D.Disk.honest g.D.Disk.history g.D.Disk.failures r Log c.in-Some.refusal due tt)
+    let due = due_is g.D.Disk c.accepted_items_are_a_front.ensures r runs.0 runs.1 c.durable-durable.ensures.engine ∙ sym c.due.ensures ∙ c.in-Some.is in
+    subst (λ (x : Replica g.row.D.Denot). IsStep g.D.Disk x Log (Refused c.in-Some.refusal) x) c.self.view_is
+    (refused_step g.D.Disk r Log c.in-Some.refusal due tt)
 
 pub returns-in-Err-clause-step : goal.returns-in-Err-clause-step
 returns-in-Err-clause-step g c =
     let r : Replica g.row.D.Denot = record { engine = c.self.inside.engine; backlog = c.self.inside.backlog; certifier = c.self.inside.certifier; stopped = c.self.inside.stopped } in
     let runs = runs_inside c.self.view_is c.requires.running in
-    let none = due_is g.D.Disk.failures c.accepted_items_are_a_front.ensures r runs.0 runs.1 c.durable-durable.ensures.engine ∙ sym c.due.ensures ∙ c.in_default.is in
+    let none = due_is g.D.Disk c.accepted_items_are_a_front.ensures r runs.0 runs.1 c.durable-durable.ensures.engine ∙ sym c.due.ensures ∙ c.in_default.is in
     let why = c.in-Err.ensures.refused in
     let gathers : is_gathering c.self.inside.engine.log.phase ≡ true = ap (λ (x : Replica g.row.D.Denot). is_gathering x.engine.log.phase) c.self.view_is ∙ why.1 in
-    let stopped : (facts_of g.D.Disk.failures r).stopped ≡ false = ap (λ b. b || is_some c.self.inside.engine.halted) runs.0 ∙ ap is_some runs.1 in
-    let takes = rests_by (facts_of g.D.Disk.failures r) c.self.inside.engine.log.phase stopped none (ap (phase_at c.self.inside.engine.log.phase) runs.1) gathers in
-    let step = hungry_step g.D.Disk.honest g.D.Disk.history g.D.Disk.failures r Log none takes tt in
-    subst (λ (x : Replica g.row.D.Denot). IsStep g.D.Disk.honest g.D.Disk.history g.D.Disk.failures c.args.self.now Log (Refused c.in-Err.refusal) x) (sym why.2)
-    (subst (λ (e : Refusal). IsStep g.D.Disk.honest g.D.Disk.history g.D.Disk.failures c.args.self.now Log (Refused e) c.args.self.now) (sym why.0)
-    (subst (λ (x : Replica g.row.D.Denot). IsStep g.D.Disk.honest g.D.Disk.history g.D.Disk.failures x Log (Refused OutOfMemory) x) c.self.view_is step))
+    let stopped : (facts_of g.D.Disk r).stopped ≡ false = ap (λ b. b || is_some c.self.inside.engine.halted) runs.0 ∙ ap is_some runs.1 in
+    let takes = rests_by (facts_of g.D.Disk r) c.self.inside.engine.log.phase stopped none (ap (phase_at c.self.inside.engine.log.phase) runs.1) gathers in
+    let step = hungry_step g.D.Disk r Log none takes tt in
+    subst (λ (x : Replica g.row.D.Denot). IsStep g.D.Disk c.args.self.now Log (Refused c.in-Err.refusal) x) (sym why.2)
+    (subst (λ (e : Refusal). IsStep g.D.Disk c.args.self.now Log (Refused e) c.args.self.now) (sym why.0)
+    (subst (λ (x : Replica g.row.D.Denot). IsStep g.D.Disk x Log (Refused OutOfMemory) x) c.self.view_is step))
 
 -- ---- where it went on
 
@@ -82,8 +83,8 @@ running_on g c = ap (λ (x : Replica g.row.D.Denot). x.stopped) c.self-2.view_is
 
 pub invariant_of-self : goal.invariant_of-self
 invariant_of-self g c =
-    replica_keeps (engine_facts g.D.Disk.failures c.self-2.inside.engine) (engine_facts g.D.Disk.failures c.log.new.self) c.self-2.inside.backlog c.self-2.inside.certifier.current c.self-2.inside.stopped (running_on g c)
-    (log_keeps (engine_facts g.D.Disk.failures c.self-2.inside.engine) (engine_facts g.D.Disk.failures c.log.new.self) (wrote c.log.result) c.log.ensures.moves) c.self-2.invariant
+    replica_keeps (engine_facts g.D.Disk c.self-2.inside.engine) (engine_facts g.D.Disk c.log.new.self) c.self-2.inside.backlog c.self-2.inside.certifier.current c.self-2.inside.stopped (running_on g c)
+    (log_keeps (engine_facts g.D.Disk c.self-2.inside.engine) (engine_facts g.D.Disk c.log.new.self) (wrote c.log.result) c.log.ensures.moves) c.self-2.invariant
 
 -- the engine takes no more
 full : (g : _) (c : goal.After-wrote g) → phase_at c.self-2.inside.engine.log.phase c.self-2.inside.engine.halted ≡ Resting
@@ -101,30 +102,26 @@ full g c rests =
 -- what the device's failure leaves
 left : (g : _) (c : goal.After-wrote g) → RefusesUnchanged Log (wrote c.log.result) c.args.self.now (new g c)
 left g c =
-    let failures = g.D.Disk.failures in
     let gathered = c.in_default-gather.ensures.took in
-    let due : refusal (engine_facts failures c.gather.new.self.engine) Log ≡ None =
-    ap (λ (x : Replica g.row.D.Denot). refusal (engine_facts failures x.engine) Log) gathered.after
-    ∙ ap (λ (x : Replica g.row.D.Denot). refusal (record (engine_facts failures x.engine) { ahead = x.engine.block ++ take (accepted_in x.engine.log.phase x.engine.block x.backlog) x.backlog }) Log) (sym c.self.view_is)
+    let due : refusal (engine_facts g.D.Disk c.gather.new.self.engine) Log ≡ None =
+    ap (λ (x : Replica g.row.D.Denot). refusal (engine_facts g.D.Disk x.engine) Log) gathered.after
+    ∙ ap (λ (x : Replica g.row.D.Denot). refusal (record (engine_facts g.D.Disk x.engine) { ahead = x.engine.block ++ take (accepted_in x.engine.log.phase x.engine.block x.backlog) x.backlog }) Log) (sym c.self.view_is)
     ∙ sym c.due.ensures ∙ c.in_default.is in
-    let none : refusal (engine_facts failures c.self-2.inside.engine) Log ≡ None = ap (λ (x : Replica g.row.D.Denot). refusal (engine_facts failures x.engine) Log) c.self-2.view_is ∙ due in
-    log_left failures c.args.self.now (mid g c) (subst (Gathers c.args.self.now) (sym c.self-2.view_is) gathered) c.log.new.self none c.log.result c.log.ensures.moves c.log.ensures.memory c.log.ensures.fault
+    let none : refusal (engine_facts g.D.Disk c.self-2.inside.engine) Log ≡ None = ap (λ (x : Replica g.row.D.Denot). refusal (engine_facts g.D.Disk x.engine) Log) c.self-2.view_is ∙ due in
+    log_left g.D.Disk c.args.self.now (mid g c) (subst (Gathers c.args.self.now) (sym c.self-2.view_is) gathered) c.log.new.self none c.log.result c.log.ensures.moves c.log.ensures.memory c.log.ensures.fault
 
 pub returns-clause-step : goal.returns-clause-step
 returns-clause-step g c =
-    let honest = g.D.Disk.honest in
-    let history = g.D.Disk.history in
-    let failures = g.D.Disk.failures in
     let params = ap (λ (x : Engine g.row.D.Denot). x.checkpoint.base.params) c.log.ensures.rest in
     let block = ap (λ (x : Engine g.row.D.Denot). x.block) c.log.ensures.rest in
-    let step = log_step honest history failures c.nodes_stay_nodes.ensures c.judging_goes_on.ensures c.parts_step_as_the_whole.ensures (mid g c) (new g c) (wrote c.log.result) params refl refl refl (running_on g c) block
+    let step = log_step g.D.Disk c.nodes_stay_nodes.ensures c.judging_goes_on.ensures c.parts_step_as_the_whole.ensures (mid g c) (new g c) (wrote c.log.result) params refl refl refl (running_on g c) block
     (record { moves = c.log.ensures.moves; steps = c.log.ensures.steps; leaves = c.log.ensures.leaves }) (full g c) in
-    let from = subst (λ (x : Replica g.row.D.Denot). IsMoved honest history failures x Log (wrote c.log.result) (new g c)) c.self-2.view_is step in
+    let from = subst (λ (x : Replica g.row.D.Denot). IsMoved g.D.Disk x Log (wrote c.log.result) (new g c)) c.self-2.view_is step in
     let disk = ap (λ (e : Engine g.row.D.Denot). e.disk) c.in_default-gather.ensures.engine in
-    subst (λ (a : Answer). IsStep honest history failures c.args.self.now Log a (new g c)) (sym c.wrote.ensures)
-    (as_step honest history failures c.args.self.now Log (wrote c.log.result) (new g c)
-    (step_from honest history failures c.args.self.now c.gather.new.self (new g c) Log (wrote c.log.result) c.in_default-gather.ensures.facts c.in_default-gather.ensures.holds disk from)
-    (subst (λ (d : g.row.D.Denot). honest d ↔ honest c.log.new.self.disk) (ap (λ (x : Replica g.row.D.Denot). x.engine.disk) c.self-2.view_is ∙ disk) (c.log.ensures.call.stays_honest, c.log.ensures.call.was_honest)) (left g c) tt)
+    subst (λ (a : Answer). IsStep g.D.Disk c.args.self.now Log a (new g c)) (sym c.wrote.ensures)
+    (as_step g.D.Disk c.args.self.now Log (wrote c.log.result) (new g c)
+    (step_from g.D.Disk c.args.self.now c.gather.new.self (new g c) Log (wrote c.log.result) c.in_default-gather.ensures.facts c.in_default-gather.ensures.holds disk from)
+    (subst (λ (d : g.row.D.Denot). g.D.Disk.honest d ↔ g.D.Disk.honest c.log.new.self.disk) (ap (λ (x : Replica g.row.D.Denot). x.engine.disk) c.self-2.view_is ∙ disk) (c.log.ensures.call.stays_honest, c.log.ensures.call.was_honest)) (left g c) tt)
 
 -- ---- the log after it
 

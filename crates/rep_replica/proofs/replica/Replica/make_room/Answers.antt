@@ -1,7 +1,7 @@
-use Rattle.std.proofs.Common.{◌≡◌, ℕ, false, Result, ap, subst, ◌∙◌}
+use Rattle.std.proofs.Common.{◌≡◌, false, Result, ap, subst, ◌∙◌}
 use Rattle.std.specs.Prelude.{is_err}
 use Rattle.rep_types.specs.declared.refusal.Refusal.{Refusal}
-use Rattle.rep_disk.specs.History.{History}
+use Rattle.rep_disk.specs.declared.disk.Disk.{Ghosts}
 use Rattle.rep_log.specs.declared.phase.Phase.TheVariants.{Resting}
 use Rattle.rep_log.specs.declared.phase.Step.TheVariants.{Full}
 use Rattle.rep_log.specs.Standing.{due_of}
@@ -22,30 +22,30 @@ abbrev Stands : {D : Type 0} → Replica D → Type 0
 Stands r = IsEngine r.engine.layout r.engine.checkpoint r.engine.log r.engine.kept r.engine.block
 
 -- where it began
-module _ {D : Type 0} (honest : D → Type 0) (history : D → History) (failures : D → ℕ) (old mid : Replica D) (a : Answer) (result : Result (Unit {0}) Refusal) (is : result ≡ outcome_of a)
-    (running : IsRunning old) (engine : Stands old) (off : (facts_of failures old).stage ≡ Off) (due : due_of old.engine.log ≡ Full) (step : IsStep honest history failures old Check a mid) (went : false ≡ is_err result) where
-  began : (f : Found) × (facts_of failures mid ≡ after (facts_of failures old) Check f)
-  began = one_done honest history failures old mid Check a result is tt running (can_begin failures old running engine off due) step (ok_of result went)
+module _ {D : Type 0} (g : Ghosts D) (old mid : Replica D) (a : Answer) (result : Result (Unit {0}) Refusal) (is : result ≡ outcome_of a)
+    (running : IsRunning old) (engine : Stands old) (off : (facts_of g old).stage ≡ Off) (due : due_of old.engine.log ≡ Full) (step : IsStep g old Check a mid) (went : false ≡ is_err result) where
+  began : (f : Found) × (facts_of g mid ≡ after (facts_of g old) Check f)
+  began = one_done g old mid Check a result is tt running (can_begin g old running engine off due) step (ok_of result went)
 
   runs : IsRunning mid
-  runs = still_running failures old mid Check began.0 running began.1
+  runs = still_running g old mid Check began.0 running began.1
 
-  rests : (facts_of failures mid).phase ≡ Resting
-  rests = ap (λ (x : Standing). x.phase) began.1 ∙ phase_is failures old running engine ∙ (full_due old.engine.log due).0
+  rests : (facts_of g mid).phase ≡ Resting
+  rests = ap (λ (x : Standing). x.phase) began.1 ∙ phase_is g old running engine ∙ (full_due old.engine.log due).0
 
 -- ---- where it didn't begin
 
 pub returns-then-is_err-clause-works : goal.returns-then-is_err-clause-works
 returns-then-is_err-clause-works g c =
     let engine : Stands c.args.self.now = subst (λ (r : Replica g.row.D.Denot). Stands r) c.self.view_is c.durable-durable.ensures.engine in
-    one_works g.D.Disk.honest g.D.Disk.history g.D.Disk.failures c.args.self.now c.check.new.self Check c.check.result c.outcome-ended.result c.outcome-ended.ensures tt c.requires.running
-    (can_begin g.D.Disk.failures c.args.self.now c.requires.running engine c.requires.off c.requires.due) c.check.ensures c.runs_are_joined.ensures (check_due g.D.Disk.failures c.args.self.now c.requires.running engine c.requires.off c.requires.some c.requires.due)
+    one_works g.D.Disk c.args.self.now c.check.new.self Check c.check.result c.outcome-ended.result c.outcome-ended.ensures tt c.requires.running
+    (can_begin g.D.Disk c.args.self.now c.requires.running engine c.requires.off c.requires.due) c.check.ensures c.runs_are_joined.ensures (check_due g.D.Disk c.args.self.now c.requires.running engine c.requires.off c.requires.some c.requires.due)
 
 pub returns-then-is_err-clause-early : goal.returns-then-is_err-clause-early
 returns-then-is_err-clause-early g c =
     let engine : Stands c.args.self.now = subst (λ (r : Replica g.row.D.Denot). Stands r) c.self.view_is c.durable-durable.ensures.engine in
-    one_early g.D.Disk.honest g.D.Disk.history g.D.Disk.failures c.args.self.now c.check.new.self Check c.check.result c.outcome-ended.result c.outcome-ended.ensures tt c.requires.running
-    (can_begin g.D.Disk.failures c.args.self.now c.requires.running engine c.requires.off c.requires.due) c.check.ensures
+    one_early g.D.Disk c.args.self.now c.check.new.self Check c.check.result c.outcome-ended.result c.outcome-ended.ensures tt c.requires.running
+    (can_begin g.D.Disk c.args.self.now c.requires.running engine c.requires.off c.requires.due) c.check.ensures
 
 -- ---- where it did
 
@@ -53,23 +53,23 @@ pub finish_checkpoint-requires : goal.finish_checkpoint-requires
 finish_checkpoint-requires g c =
     let engine : Stands c.args.self.now = subst (λ (r : Replica g.row.D.Denot). Stands r) c.self.view_is c.durable-durable.ensures.engine in
     record {
-      running = runs g.D.Disk.honest g.D.Disk.history g.D.Disk.failures c.args.self.now c.check.new.self c.check.result c.outcome-ended.result c.outcome-ended.ensures c.requires.running engine c.requires.off c.requires.due c.check.ensures c.if-is_err.ensures.value;
+      running = runs g.D.Disk c.args.self.now c.check.new.self c.check.result c.outcome-ended.result c.outcome-ended.ensures c.requires.running engine c.requires.off c.requires.due c.check.ensures c.if-is_err.ensures.value;
     }
 
 pub returns-clause-works : goal.returns-clause-works
 returns-clause-works g c =
     let engine : Stands c.args.self.now = subst (λ (r : Replica g.row.D.Denot). Stands r) c.self.view_is c.durable-durable.ensures.engine in
-    works_then g.D.Disk.honest g.D.Disk.history g.D.Disk.failures c.runs_are_joined.ensures c.args.self.now c.check.new.self c.finish_checkpoint.new.self c.finish_checkpoint.result
-    (subst (λ (r : Result (Unit {0}) Refusal). Works g.D.Disk.honest g.D.Disk.history g.D.Disk.failures c.args.self.now c.check.new.self r) (ok_of c.outcome-ended.result c.if-is_err.ensures.value)
-    (one_works g.D.Disk.honest g.D.Disk.history g.D.Disk.failures c.args.self.now c.check.new.self Check c.check.result c.outcome-ended.result c.outcome-ended.ensures tt c.requires.running
-    (can_begin g.D.Disk.failures c.args.self.now c.requires.running engine c.requires.off c.requires.due) c.check.ensures c.runs_are_joined.ensures (check_due g.D.Disk.failures c.args.self.now c.requires.running engine c.requires.off c.requires.some c.requires.due))) c.finish_checkpoint.ensures.works
+    works_then g.D.Disk c.runs_are_joined.ensures c.args.self.now c.check.new.self c.finish_checkpoint.new.self c.finish_checkpoint.result
+    (subst (λ (r : Result (Unit {0}) Refusal). Works g.D.Disk c.args.self.now c.check.new.self r) (ok_of c.outcome-ended.result c.if-is_err.ensures.value)
+    (one_works g.D.Disk c.args.self.now c.check.new.self Check c.check.result c.outcome-ended.result c.outcome-ended.ensures tt c.requires.running
+    (can_begin g.D.Disk c.args.self.now c.requires.running engine c.requires.off c.requires.due) c.check.ensures c.runs_are_joined.ensures (check_due g.D.Disk c.args.self.now c.requires.running engine c.requires.off c.requires.some c.requires.due))) c.finish_checkpoint.ensures.works
 
 pub returns-clause-less : goal.returns-clause-less
 returns-clause-less g c = on_ok c.finish_checkpoint.result (λ done.
     let engine : Stands c.args.self.now = subst (λ (r : Replica g.row.D.Denot). Stands r) c.self.view_is c.durable-durable.ensures.engine in
-    let at = began g.D.Disk.honest g.D.Disk.history g.D.Disk.failures c.args.self.now c.check.new.self c.check.result c.outcome-ended.result c.outcome-ended.ensures c.requires.running engine c.requires.off c.requires.due c.check.ensures c.if-is_err.ensures.value in
-    let rest = rests g.D.Disk.honest g.D.Disk.history g.D.Disk.failures c.args.self.now c.check.new.self c.check.result c.outcome-ended.result c.outcome-ended.ensures c.requires.running engine c.requires.off c.requires.due c.check.ensures c.if-is_err.ensures.value in
-    room_made g.D.Disk.failures c.args.self.now c.finish_checkpoint.new.self c.requires.running (ok_on c.finish_checkpoint.result c.finish_checkpoint.ensures.running done) engine (facts_of g.D.Disk.failures c.check.new.self)
+    let at = began g.D.Disk c.args.self.now c.check.new.self c.check.result c.outcome-ended.result c.outcome-ended.ensures c.requires.running engine c.requires.off c.requires.due c.check.ensures c.if-is_err.ensures.value in
+    let rest = rests g.D.Disk c.args.self.now c.check.new.self c.check.result c.outcome-ended.result c.outcome-ended.ensures c.requires.running engine c.requires.off c.requires.due c.check.ensures c.if-is_err.ensures.value in
+    room_made g.D.Disk c.args.self.now c.finish_checkpoint.new.self c.requires.running (ok_on c.finish_checkpoint.result c.finish_checkpoint.ensures.running done) engine (facts_of g.D.Disk c.check.new.self)
     at.0 c.requires.due c.requires.off at.1 (ok_on c.finish_checkpoint.result (c.finish_checkpoint.ensures.rests rest) done) (ok_on c.finish_checkpoint.result c.finish_checkpoint.ensures.off done))
 
 -- ---- what stays
@@ -77,21 +77,21 @@ returns-clause-less g c = on_ok c.finish_checkpoint.result (λ done.
 pub returns-then-is_err-clause-keeps : goal.returns-then-is_err-clause-keeps
 returns-then-is_err-clause-keeps g c =
     let engine : Stands c.args.self.now = subst (λ (r : Replica g.row.D.Denot). Stands r) c.self.view_is c.durable-durable.ensures.engine in
-    refused_keeps (facts_of g.D.Disk.failures c.args.self.now) (facts_of g.D.Disk.failures c.check.new.self) Check c.check.result
-    (not_refused (facts_of g.D.Disk.failures c.args.self.now) Check (runs_on g.D.Disk.failures c.args.self.now c.requires.running) (can_begin g.D.Disk.failures c.args.self.now c.requires.running engine c.requires.off c.requires.due))
+    refused_keeps (facts_of g.D.Disk c.args.self.now) (facts_of g.D.Disk c.check.new.self) Check c.check.result
+    (not_refused (facts_of g.D.Disk c.args.self.now) Check (runs_on g.D.Disk c.args.self.now c.requires.running) (can_begin g.D.Disk c.args.self.now c.requires.running engine c.requires.off c.requires.due))
     c.check.ensures.moves (λ done. err_not_ok c.outcome-ended.result c.if-is_err.ensures.value (c.outcome-ended.ensures ∙ done))
 
 pub returns-clause-keeps : goal.returns-clause-keeps
 returns-clause-keeps g c =
     let engine : Stands c.args.self.now = subst (λ (r : Replica g.row.D.Denot). Stands r) c.self.view_is c.durable-durable.ensures.engine in
-    let at = began g.D.Disk.honest g.D.Disk.history g.D.Disk.failures c.args.self.now c.check.new.self c.check.result c.outcome-ended.result c.outcome-ended.ensures c.requires.running engine c.requires.off c.requires.due c.check.ensures c.if-is_err.ensures.value in
-    let rest = rests g.D.Disk.honest g.D.Disk.history g.D.Disk.failures c.args.self.now c.check.new.self c.check.result c.outcome-ended.result c.outcome-ended.ensures c.requires.running engine c.requires.off c.requires.due c.check.ensures c.if-is_err.ensures.value in
-    keeps_then (facts_of g.D.Disk.failures c.args.self.now) (facts_of g.D.Disk.failures c.check.new.self) (facts_of g.D.Disk.failures c.finish_checkpoint.new.self) (began_keeps (facts_of g.D.Disk.failures c.args.self.now) (facts_of g.D.Disk.failures c.check.new.self) at.0 at.1) (c.finish_checkpoint.ensures.keeps rest)
+    let at = began g.D.Disk c.args.self.now c.check.new.self c.check.result c.outcome-ended.result c.outcome-ended.ensures c.requires.running engine c.requires.off c.requires.due c.check.ensures c.if-is_err.ensures.value in
+    let rest = rests g.D.Disk c.args.self.now c.check.new.self c.check.result c.outcome-ended.result c.outcome-ended.ensures c.requires.running engine c.requires.off c.requires.due c.check.ensures c.if-is_err.ensures.value in
+    keeps_then (facts_of g.D.Disk c.args.self.now) (facts_of g.D.Disk c.check.new.self) (facts_of g.D.Disk c.finish_checkpoint.new.self) (began_keeps (facts_of g.D.Disk c.args.self.now) (facts_of g.D.Disk c.check.new.self) at.0 at.1) (c.finish_checkpoint.ensures.keeps rest)
 
 pub returns-clause-free : goal.returns-clause-free
 returns-clause-free g c = on_ok c.finish_checkpoint.result (λ done.
     let engine : Stands c.args.self.now = subst (λ (r : Replica g.row.D.Denot). Stands r) c.self.view_is c.durable-durable.ensures.engine in
-    let at = began g.D.Disk.honest g.D.Disk.history g.D.Disk.failures c.args.self.now c.check.new.self c.check.result c.outcome-ended.result c.outcome-ended.ensures c.requires.running engine c.requires.off c.requires.due c.check.ensures c.if-is_err.ensures.value in
-    let rest = rests g.D.Disk.honest g.D.Disk.history g.D.Disk.failures c.args.self.now c.check.new.self c.check.result c.outcome-ended.result c.outcome-ended.ensures c.requires.running engine c.requires.off c.requires.due c.check.ensures c.if-is_err.ensures.value in
-    room_left g.D.Disk.failures c.args.self.now c.finish_checkpoint.new.self c.requires.running (ok_on c.finish_checkpoint.result c.finish_checkpoint.ensures.running done) engine (facts_of g.D.Disk.failures c.check.new.self)
+    let at = began g.D.Disk c.args.self.now c.check.new.self c.check.result c.outcome-ended.result c.outcome-ended.ensures c.requires.running engine c.requires.off c.requires.due c.check.ensures c.if-is_err.ensures.value in
+    let rest = rests g.D.Disk c.args.self.now c.check.new.self c.check.result c.outcome-ended.result c.outcome-ended.ensures c.requires.running engine c.requires.off c.requires.due c.check.ensures c.if-is_err.ensures.value in
+    room_left g.D.Disk c.args.self.now c.finish_checkpoint.new.self c.requires.running (ok_on c.finish_checkpoint.result c.finish_checkpoint.ensures.running done) engine (facts_of g.D.Disk c.check.new.self)
     at.0 c.requires.off at.1 (ok_on c.finish_checkpoint.result (c.finish_checkpoint.ensures.rests rest) done) (ok_on c.finish_checkpoint.result c.finish_checkpoint.ensures.off done))

@@ -8,8 +8,8 @@ use Rattle.rep_replica.proofs.replica.Replica.open.Goals as goal
 pub returns-in-Ok-clause-opens : goal.returns-in-Ok-clause-opens
 returns-in-Ok-clause-opens g c honest =
     let engine = c.in_ok-engine.engine in
-    let at = opened_replica g.D.Disk.honest g.D.Disk.history g.D.Disk.failures (g.D.Disk.size c.args.disk) (g.D.Disk.history c.args.disk) engine c.in_ok-engine.certifier c.in_ok-engine.ensures.opened (c.in_ok-engine.ensures.recovers honest) in
-    subst (λ (js : List Judged). Opens g.D.Disk.honest g.D.Disk.history g.D.Disk.failures (g.D.Disk.history c.args.disk) (record { engine = engine; backlog = js; certifier = c.in_ok-engine.certifier; stopped = false })) (sym c.in-Ok.ensures.empty) at
+    let at = opened_replica g.D.Disk (g.D.Disk.size c.args.disk) (g.D.Disk.history c.args.disk) engine c.in_ok-engine.certifier c.in_ok-engine.ensures.opened (c.in_ok-engine.ensures.recovers honest) in
+    subst (λ (js : List Judged). Opens g.D.Disk (g.D.Disk.history c.args.disk) (record { engine = engine; backlog = js; certifier = c.in_ok-engine.certifier; stopped = false })) (sym c.in-Ok.ensures.empty) at
 
 pub returns-in_err-engine : goal.returns-in_err-engine
 returns-in_err-engine g c =

@@ -28,21 +28,21 @@ returns-clause-step g c =
     let running : c.self.inside.stopped ≡ false = ap (λ (r : Replica g.row.D.Denot). r.stopped) c.self.view_is ∙ (both_false c.args.self.now.stopped (is_some c.args.self.now.engine.halted) goes).0 in
     let params = ap (λ (x : Engine g.row.D.Denot). x.checkpoint.base.params) c.read.ensures.rest in
     let block = ap (λ (x : Engine g.row.D.Denot). x.block) c.read.ensures.rest in
-    let step = read_step g.D.Disk.honest g.D.Disk.history g.D.Disk.failures c.nodes_stay_nodes.ensures c.judging_goes_on.ensures c.parts_step_as_the_whole.ensures (old g c) (new g c) (row c.read.result) params refl refl refl running c.args.key c.args.s block
+    let step = read_step g.D.Disk c.nodes_stay_nodes.ensures c.judging_goes_on.ensures c.parts_step_as_the_whole.ensures (old g c) (new g c) (row c.read.result) params refl refl refl running c.args.key c.args.s block
     (record {
       moves = c.read.ensures.moves;
       steps = c.read.ensures.steps;
       leaves = λ n holds. leaves_none (g.D.Disk.history e.disk) (g.D.Disk.history c.read.new.self.disk) (c.read.ensures.same holds.is_honest);
     }) in
-    subst (λ (r : Replica g.row.D.Denot). IsStep g.D.Disk.honest g.D.Disk.history g.D.Disk.failures r (Read c.args.key c.args.s) (row c.read.result) (new g c)) c.self.view_is
-    (as_step g.D.Disk.honest g.D.Disk.history g.D.Disk.failures (old g c) (Read c.args.key c.args.s) (row c.read.result) (new g c) step (c.read.ensures.call.stays_honest, c.read.ensures.call.was_honest)
+    subst (λ (r : Replica g.row.D.Denot). IsStep g.D.Disk r (Read c.args.key c.args.s) (row c.read.result) (new g c)) c.self.view_is
+    (as_step g.D.Disk (old g c) (Read c.args.key c.args.s) (row c.read.result) (new g c) step (c.read.ensures.call.stays_honest, c.read.ensures.call.was_honest)
     (left_by_row (Read c.args.key c.args.s) (old g c) (new g c) c.read.result
     (asked_left (Read c.args.key c.args.s) (old g c) c.read.new.self (λ fault. fault) c.read.result c.read.ensures.unchanged c.read.ensures.fault))
-    (read_spells g.D.Disk.honest g.D.Disk.history c.args.key c.args.s (old g c) (new g c) c.read.result c.read.ensures.spelled))
+    (read_spells g.D.Disk c.args.key c.args.s (old g c) (new g c) c.read.result c.read.ensures.spelled))
 
 pub returns-then-is_stopped-clause-step : goal.returns-then-is_stopped-clause-step
 returns-then-is_stopped-clause-step g c =
-    stopped_step g.D.Disk.honest g.D.Disk.history g.D.Disk.failures c.args.self.now (Read c.args.key c.args.s) (sym c.is_stopped.ensures ∙ c.if-is_stopped.true)
+    stopped_step g.D.Disk c.args.self.now (Read c.args.key c.args.s) (sym c.is_stopped.ensures ∙ c.if-is_stopped.true)
 
 pub returns-then-is_stopped-clause-spelled : goal.returns-then-is_stopped-clause-spelled
-returns-then-is_stopped-clause-spelled g c = stopped_read g.D.Disk.honest g.D.Disk.history c.args.self.now c.args.key c.args.s
+returns-then-is_stopped-clause-spelled g c = stopped_read g.D.Disk c.args.self.now c.args.key c.args.s

@@ -8,7 +8,7 @@ pub loop-self-init : goal.loop-self-init
 loop-self-init g c =
     let ok = ok_of c.finish_checkpoint-ended.result c.if-is_err.ensures.value in
     record {
-      works = subst (λ (r : Result (Unit {0}) Refusal). Works g.D.Disk.honest g.D.Disk.history g.D.Disk.failures c.args.self.now c.finish_checkpoint-ended.new.self r) ok c.finish_checkpoint-ended.ensures.works;
+      works = subst (λ (r : Result (Unit {0}) Refusal). Works g.D.Disk c.args.self.now c.finish_checkpoint-ended.new.self r) ok c.finish_checkpoint-ended.ensures.works;
       running = ok_on c.finish_checkpoint-ended.result c.finish_checkpoint-ended.ensures.running ok;
       off = ok_on c.finish_checkpoint-ended.result c.finish_checkpoint-ended.ensures.off ok;
     }
@@ -18,8 +18,8 @@ loop-self-preserved g c =
     let ok = ok_of c.log_on-ended.result c.if-is_err-2.ensures.value in
     record {
       works =
-          subst (λ (r : Result (Unit {0}) Refusal). Works g.D.Disk.honest g.D.Disk.history g.D.Disk.failures c.args.self.now c.log_on-ended.new.self r) ok
-          (works_then g.D.Disk.honest g.D.Disk.history g.D.Disk.failures c.runs_are_joined.ensures c.args.self.now c.loop-self.self c.log_on-ended.new.self c.log_on-ended.result c.loop-self.invariant.works
+          subst (λ (r : Result (Unit {0}) Refusal). Works g.D.Disk c.args.self.now c.log_on-ended.new.self r) ok
+          (works_then g.D.Disk c.runs_are_joined.ensures c.args.self.now c.loop-self.self c.log_on-ended.new.self c.log_on-ended.result c.loop-self.invariant.works
           c.log_on-ended.ensures.works);
       running = ok_on c.log_on-ended.result c.log_on-ended.ensures.running ok;
       off = ok_on c.log_on-ended.result c.log_on-ended.ensures.off ok;
@@ -28,5 +28,5 @@ loop-self-preserved g c =
 -- where a step of the log ended it
 pub returns-then-is_err-2-clause-works : goal.returns-then-is_err-2-clause-works
 returns-then-is_err-2-clause-works g c = λ runs.
-    works_then g.D.Disk.honest g.D.Disk.history g.D.Disk.failures c.runs_are_joined.ensures c.args.self.now c.loop-self.self c.log_on-ended.new.self c.log_on-ended.result c.loop-self.invariant.works
+    works_then g.D.Disk c.runs_are_joined.ensures c.args.self.now c.loop-self.self c.log_on-ended.new.self c.log_on-ended.result c.loop-self.invariant.works
     c.log_on-ended.ensures.works

@@ -30,18 +30,18 @@ told g c =
 pub invariant_of-self : goal.invariant_of-self
 invariant_of-self g c =
     let runs = runs_inside c.self.view_is c.requires.running in
-    replica_keeps (engine_facts g.D.Disk.failures c.self.inside.engine) (engine_facts g.D.Disk.failures c.sync.new.self) c.self.inside.backlog c.self.inside.certifier.current c.self.inside.stopped runs.0
-    (sync_keeps (engine_facts g.D.Disk.failures c.self.inside.engine) (engine_facts g.D.Disk.failures c.sync.new.self) (synced c.sync.result) (told g c) c.sync.ensures.moves) c.self.invariant
+    replica_keeps (engine_facts g.D.Disk c.self.inside.engine) (engine_facts g.D.Disk c.sync.new.self) c.self.inside.backlog c.self.inside.certifier.current c.self.inside.stopped runs.0
+    (sync_keeps (engine_facts g.D.Disk c.self.inside.engine) (engine_facts g.D.Disk c.sync.new.self) (synced c.sync.result) (told g c) c.sync.ensures.moves) c.self.invariant
 
 pub returns-clause-step : goal.returns-clause-step
 returns-clause-step g c =
     let runs = runs_inside c.self.view_is c.requires.running in
     let params = c.sync.ensures.params in
-    let step = sync_step g.D.Disk.honest g.D.Disk.history g.D.Disk.failures c.nodes_stay_nodes.ensures c.judging_goes_on.ensures c.parts_step_as_the_whole.ensures (old g c) (new g c) (synced c.sync.result) params refl refl refl runs.0 (told g c)
+    let step = sync_step g.D.Disk c.nodes_stay_nodes.ensures c.judging_goes_on.ensures c.parts_step_as_the_whole.ensures (old g c) (new g c) (synced c.sync.result) params refl refl refl runs.0 (told g c)
     (record { moves = c.sync.ensures.moves; steps = c.sync.ensures.steps; leaves = c.sync.ensures.leaves }) in
-    subst (λ (r : Replica g.row.D.Denot). IsStep g.D.Disk.honest g.D.Disk.history g.D.Disk.failures r Sync c.synced.result (new g c)) c.self.view_is
-    (subst (λ (a : Answer). IsStep g.D.Disk.honest g.D.Disk.history g.D.Disk.failures (old g c) Sync a (new g c)) (sym c.synced.ensures)
-    (as_step g.D.Disk.honest g.D.Disk.history g.D.Disk.failures (old g c) Sync (synced c.sync.result) (new g c) step (c.sync.ensures.call.stays_honest, c.sync.ensures.call.was_honest)
+    subst (λ (r : Replica g.row.D.Denot). IsStep g.D.Disk r Sync c.synced.result (new g c)) c.self.view_is
+    (subst (λ (a : Answer). IsStep g.D.Disk (old g c) Sync a (new g c)) (sym c.synced.ensures)
+    (as_step g.D.Disk (old g c) Sync (synced c.sync.result) (new g c) step (c.sync.ensures.call.stays_honest, c.sync.ensures.call.was_honest)
     (left_by_synced Sync (old g c) (new g c) c.sync.result (refused_left Sync (old g c) c.sync.new.self (λ fault. fault) c.sync.result c.sync.ensures.unchanged c.sync.ensures.fault)) tt))
 
 pub returns-clause-log : goal.returns-clause-log

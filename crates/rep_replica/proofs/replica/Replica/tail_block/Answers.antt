@@ -10,20 +10,20 @@ within g c = record { engine = c.self.inside.engine; backlog = c.self.inside.bac
 
 pub returns-clause-holds : goal.returns-clause-holds
 returns-clause-holds g c n holds other =
-    holds_on g.D.Disk.size g.D.Disk.failures g.D.Disk.honest g.D.Disk.history in_log (within g c) c.args.self.now c.self.view_is (sym c.is_stopped.ensures ∙ c.if-is_stopped.false) c.tail_block.new.self c.tail_block.result c.tail_block.ensures.asks n
+    holds_on g.D.Disk in_log (within g c) c.args.self.now c.self.view_is (sym c.is_stopped.ensures ∙ c.if-is_stopped.false) c.tail_block.new.self c.tail_block.result c.tail_block.ensures.asks n
     c.tail_block.ensures.holds holds other
 
 pub returns-clause-asks : goal.returns-clause-asks
 returns-clause-asks g c =
-    asks g.D.Disk.size g.D.Disk.failures g.D.Disk.honest g.D.Disk.history in_log (within g c) c.args.self.now c.self.view_is (sym c.is_stopped.ensures ∙ c.if-is_stopped.false) c.tail_block.new.self c.tail_block.result c.tail_block.ensures.asks
+    asks g.D.Disk in_log (within g c) c.args.self.now c.self.view_is (sym c.is_stopped.ensures ∙ c.if-is_stopped.false) c.tail_block.new.self c.tail_block.result c.tail_block.ensures.asks
 
 pub returns-clause-block : goal.returns-clause-block
 returns-clause-block g c n holds =
-    block_of_all g.D.Disk.honest g.D.Disk.history g.D.Disk.failures (within g c) c.args.self.now c.self.view_is n holds c.args.index c.tail_block.result c.tail_block.ensures.block
+    block_of_all g.D.Disk (within g c) c.args.self.now c.self.view_is n holds c.args.index c.tail_block.result c.tail_block.ensures.block
 
 pub returns-clause-whole : goal.returns-clause-whole
 returns-clause-whole g c n holds =
-    base_of_all g.D.Disk.honest g.D.Disk.history g.D.Disk.failures (within g c) c.args.self.now c.self.view_is n holds (λ _. c.tail_block.result ≢ Err (Corrupt in_log)) c.tail_block.ensures.whole
+    base_of_all g.D.Disk (within g c) c.args.self.now c.self.view_is n holds (λ _. c.tail_block.result ≢ Err (Corrupt in_log)) c.tail_block.ensures.whole
 
 pub returns-then-is_stopped-clause-spelled : goal.returns-then-is_stopped-clause-spelled
 returns-then-is_stopped-clause-spelled g c honest = no_block _ _ _ _

@@ -11,8 +11,8 @@ weaker (Err e) f p = tt
 
 pub returns-clause-node : goal.returns-clause-node
 returns-clause-node g c n holds =
-    let there : Holds g.D.Disk.honest g.D.Disk.history g.D.Disk.failures n (record { engine = c.self.inside.engine; backlog = c.self.inside.backlog; certifier = c.self.inside.certifier; stopped = c.self.inside.stopped }) =
-    subst (Holds g.D.Disk.honest g.D.Disk.history g.D.Disk.failures n) (sym c.self.view_is) holds in
+    let there : Holds g.D.Disk n (record { engine = c.self.inside.engine; backlog = c.self.inside.backlog; certifier = c.self.inside.certifier; stopped = c.self.inside.stopped }) =
+    subst (Holds g.D.Disk n) (sym c.self.view_is) holds in
     let durable : n.facts.durable ≡ c.durable-durable.result = ap (λ (s : Standing). s.durable) there.facts ∙ sym c.durable-durable.ensures.durable in
     let above = there.node.facts.based in
     let window = there.windows c.durable-durable.result (omega (arith, durable, there.node.position, above)) (subst (IsAskable c.self.inside.certifier.current) (sym c.durable-durable.ensures.durable) c.self.invariant.askable) in

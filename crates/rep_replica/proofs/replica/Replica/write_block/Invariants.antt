@@ -4,7 +4,7 @@ use Rattle.rep_replica.proofs.replica.Replica.write_block.Given as goal
 
 -- no reply yet, or the block is durable
 abbrev pub invariant-loop-replies : goal.invariant-loop-replies
-invariant-loop-replies g l = Came g.D.Disk.honest g.D.Disk.history g.D.Disk.failures l.fn.pages l.left l.replies l.fn.self l.self
+invariant-loop-replies g l = Came g.D.Disk l.fn.pages l.left l.replies l.fn.self l.self
 
 abbrev pub decreases-loop-replies : goal.decreases-loop-replies
-decreases-loop-replies g l = work_of g.D.Disk.failures l.self
+decreases-loop-replies g l = work_of g.D.Disk l.self

@@ -22,12 +22,12 @@ returns-in-Ok-clause-turns g c =
     let engine : Stands old = subst (λ (r : Replica g.row.D.Denot). Stands r) c.self.view_is c.durable-log.ensures.engine in
     let inside = ap (λ (r : Replica g.row.D.Denot). r.stopped) c.self.view_is ∙ c.requires.running.inside in
     let placed : ArePlaced old.backlog = subst (λ (r : Replica g.row.D.Denot). ArePlaced r.backlog) c.self.view_is (c.self.invariant.items inside).placed in
-    let none : refusal_here (facts_of g.D.Disk.failures old) Log ≡ None = can_log g.D.Disk.failures old c.requires.running engine c.fronts_are_determined.ensures c.requires.due placed c.look_at_the_first.ensures c.requires.some in
+    let none : refusal_here (facts_of g.D.Disk old) Log ≡ None = can_log g.D.Disk old c.requires.running engine c.fronts_are_determined.ensures c.requires.due placed c.look_at_the_first.ensures c.requires.some in
     let done = sym c.outcome.ensures ∙ c.in-Ok.is in
-    let went = log_went g.D.Disk.honest g.D.Disk.history g.D.Disk.failures c.runs_are_joined.ensures c.args.pages old c.log-answer.new.self c.log-answer.result c.requires.running engine c.requires.free c.requires.due none c.log-answer.ensures.step done in
-    let runs : IsRunning c.log-answer.new.self = still_running g.D.Disk.failures old c.log-answer.new.self Log went.0 c.requires.running went.1 in
-    subst (λ (rs : List Reply). Turns g.D.Disk.honest g.D.Disk.history g.D.Disk.failures c.args.pages old c.log-answer.new.self (Ok (c.args.pages, rs))) (sym c.new.ensures)
-    (log_turn g.D.Disk.honest g.D.Disk.history g.D.Disk.failures c.runs_are_joined.ensures c.args.pages old c.log-answer.new.self c.log-answer.result c.requires.running engine c.requires.free c.requires.due none c.log-answer.ensures.step done)
+    let went = log_went g.D.Disk c.runs_are_joined.ensures c.args.pages old c.log-answer.new.self c.log-answer.result c.requires.running engine c.requires.free c.requires.due none c.log-answer.ensures.step done in
+    let runs : IsRunning c.log-answer.new.self = still_running g.D.Disk old c.log-answer.new.self Log went.0 c.requires.running went.1 in
+    subst (λ (rs : List Reply). Turns g.D.Disk c.args.pages old c.log-answer.new.self (Ok (c.args.pages, rs))) (sym c.new.ensures)
+    (log_turn g.D.Disk c.runs_are_joined.ensures c.args.pages old c.log-answer.new.self c.log-answer.result c.requires.running engine c.requires.free c.requires.due none c.log-answer.ensures.step done)
 
 pub returns-in-Ok-clause-running : goal.returns-in-Ok-clause-running
 returns-in-Ok-clause-running g c =
@@ -35,10 +35,10 @@ returns-in-Ok-clause-running g c =
     let engine : Stands old = subst (λ (r : Replica g.row.D.Denot). Stands r) c.self.view_is c.durable-log.ensures.engine in
     let inside = ap (λ (r : Replica g.row.D.Denot). r.stopped) c.self.view_is ∙ c.requires.running.inside in
     let placed : ArePlaced old.backlog = subst (λ (r : Replica g.row.D.Denot). ArePlaced r.backlog) c.self.view_is (c.self.invariant.items inside).placed in
-    let none : refusal_here (facts_of g.D.Disk.failures old) Log ≡ None = can_log g.D.Disk.failures old c.requires.running engine c.fronts_are_determined.ensures c.requires.due placed c.look_at_the_first.ensures c.requires.some in
+    let none : refusal_here (facts_of g.D.Disk old) Log ≡ None = can_log g.D.Disk old c.requires.running engine c.fronts_are_determined.ensures c.requires.due placed c.look_at_the_first.ensures c.requires.some in
     let done = sym c.outcome.ensures ∙ c.in-Ok.is in
-    let went = log_went g.D.Disk.honest g.D.Disk.history g.D.Disk.failures c.runs_are_joined.ensures c.args.pages old c.log-answer.new.self c.log-answer.result c.requires.running engine c.requires.free c.requires.due none c.log-answer.ensures.step done in
-    let runs : IsRunning c.log-answer.new.self = still_running g.D.Disk.failures old c.log-answer.new.self Log went.0 c.requires.running went.1 in
+    let went = log_went g.D.Disk c.runs_are_joined.ensures c.args.pages old c.log-answer.new.self c.log-answer.result c.requires.running engine c.requires.free c.requires.due none c.log-answer.ensures.step done in
+    let runs : IsRunning c.log-answer.new.self = still_running g.D.Disk old c.log-answer.new.self Log went.0 c.requires.running went.1 in
     runs
 
 pub returns-in-Ok-clause-less : goal.returns-in-Ok-clause-less
@@ -47,11 +47,11 @@ returns-in-Ok-clause-less g c =
     let engine : Stands old = subst (λ (r : Replica g.row.D.Denot). Stands r) c.self.view_is c.durable-log.ensures.engine in
     let inside = ap (λ (r : Replica g.row.D.Denot). r.stopped) c.self.view_is ∙ c.requires.running.inside in
     let placed : ArePlaced old.backlog = subst (λ (r : Replica g.row.D.Denot). ArePlaced r.backlog) c.self.view_is (c.self.invariant.items inside).placed in
-    let none : refusal_here (facts_of g.D.Disk.failures old) Log ≡ None = can_log g.D.Disk.failures old c.requires.running engine c.fronts_are_determined.ensures c.requires.due placed c.look_at_the_first.ensures c.requires.some in
+    let none : refusal_here (facts_of g.D.Disk old) Log ≡ None = can_log g.D.Disk old c.requires.running engine c.fronts_are_determined.ensures c.requires.due placed c.look_at_the_first.ensures c.requires.some in
     let done = sym c.outcome.ensures ∙ c.in-Ok.is in
-    let went = log_went g.D.Disk.honest g.D.Disk.history g.D.Disk.failures c.runs_are_joined.ensures c.args.pages old c.log-answer.new.self c.log-answer.result c.requires.running engine c.requires.free c.requires.due none c.log-answer.ensures.step done in
-    let runs : IsRunning c.log-answer.new.self = still_running g.D.Disk.failures old c.log-answer.new.self Log went.0 c.requires.running went.1 in
-    written_less g.D.Disk.failures old c.log-answer.new.self c.requires.running runs engine (length c.log-answer.new.self.engine.block) went.0 c.requires.due went.1 (c.log-answer.ensures.log done)
+    let went = log_went g.D.Disk c.runs_are_joined.ensures c.args.pages old c.log-answer.new.self c.log-answer.result c.requires.running engine c.requires.free c.requires.due none c.log-answer.ensures.step done in
+    let runs : IsRunning c.log-answer.new.self = still_running g.D.Disk old c.log-answer.new.self Log went.0 c.requires.running went.1 in
+    written_less g.D.Disk old c.log-answer.new.self c.requires.running runs engine (length c.log-answer.new.self.engine.block) went.0 c.requires.due went.1 (c.log-answer.ensures.log done)
 
 pub returns-in-Err-clause-turns : goal.returns-in-Err-clause-turns
 returns-in-Err-clause-turns g c =
@@ -59,8 +59,8 @@ returns-in-Err-clause-turns g c =
     let engine : Stands old = subst (λ (r : Replica g.row.D.Denot). Stands r) c.self.view_is c.durable-log.ensures.engine in
     let inside = ap (λ (r : Replica g.row.D.Denot). r.stopped) c.self.view_is ∙ c.requires.running.inside in
     let placed : ArePlaced old.backlog = subst (λ (r : Replica g.row.D.Denot). ArePlaced r.backlog) c.self.view_is (c.self.invariant.items inside).placed in
-    let none : refusal_here (facts_of g.D.Disk.failures old) Log ≡ None = can_log g.D.Disk.failures old c.requires.running engine c.fronts_are_determined.ensures c.requires.due placed c.look_at_the_first.ensures c.requires.some in
-    log_ended g.D.Disk.honest g.D.Disk.history g.D.Disk.failures c.runs_are_joined.ensures c.args.pages old c.log-answer.new.self c.log-answer.result c.requires.running engine c.requires.free c.requires.due none c.log-answer.ensures.step
+    let none : refusal_here (facts_of g.D.Disk old) Log ≡ None = can_log g.D.Disk old c.requires.running engine c.fronts_are_determined.ensures c.requires.due placed c.look_at_the_first.ensures c.requires.some in
+    log_ended g.D.Disk c.runs_are_joined.ensures c.args.pages old c.log-answer.new.self c.log-answer.result c.requires.running engine c.requires.free c.requires.due none c.log-answer.ensures.step
     c.in-Err.refusal (sym c.outcome.ensures ∙ c.in-Err.is)
 
 pub returns-in-Err-clause-early : goal.returns-in-Err-clause-early
@@ -69,6 +69,6 @@ returns-in-Err-clause-early g c =
     let engine : Stands old = subst (λ (r : Replica g.row.D.Denot). Stands r) c.self.view_is c.durable-log.ensures.engine in
     let inside = ap (λ (r : Replica g.row.D.Denot). r.stopped) c.self.view_is ∙ c.requires.running.inside in
     let placed : ArePlaced old.backlog = subst (λ (r : Replica g.row.D.Denot). ArePlaced r.backlog) c.self.view_is (c.self.invariant.items inside).placed in
-    let none : refusal_here (facts_of g.D.Disk.failures old) Log ≡ None = can_log g.D.Disk.failures old c.requires.running engine c.fronts_are_determined.ensures c.requires.due placed c.look_at_the_first.ensures c.requires.some in
+    let none : refusal_here (facts_of g.D.Disk old) Log ≡ None = can_log g.D.Disk old c.requires.running engine c.fronts_are_determined.ensures c.requires.due placed c.look_at_the_first.ensures c.requires.some in
     subst (λ (x : Result (Unit {0}) Refusal). IfErr x EndsEarly) c.in-Err.is
-    (one_early g.D.Disk.honest g.D.Disk.history g.D.Disk.failures old c.log-answer.new.self Log c.log-answer.result c.outcome.result c.outcome.ensures tt c.requires.running none c.log-answer.ensures.step)
+    (one_early g.D.Disk old c.log-answer.new.self Log c.log-answer.result c.outcome.result c.outcome.ensures tt c.requires.running none c.log-answer.ensures.step)

@@ -6,7 +6,7 @@ pub returns : goal.returns
 returns g c =
     let told = c.read.ensures in
     let law = c.reads_forget_nothing.ensures in
-    let is : IsRead g.D.Disk.size g.D.Disk.failures g.D.Disk.honest g.D.Disk.history c.args.self.now c.args.key c.args.s c.read.result c.read.new.self =
+    let is : IsRead g.D.Disk c.args.self.now c.args.key c.args.s c.read.result c.read.new.self =
     record { step = told.step; call = told.call; rest = told.rest; same = told.same; stopped = told.stopped } in
     record {
       is_read = is;
