@@ -1,14 +1,24 @@
 # `make run` is the first thing to try, `make build` makes the proved program, and `make test` is all that CI runs.
 
-CRATES := rep_types rep_streams rep_forms rep_record rep_disk rep_layout rep_versions rep_pages rep_cells rep_pool rep_log rep_steps \
-	rep_image rep_checkpoint rep_cert rep_backlog rep_engine rep_recover rep_replica rep_saved rep_transfer rep_catchup rep_script \
-	rep_ordered rep_snap rep_stations rep_node rep_serve rep_reasons rep_damage rep_command rep_files replicad
+# The program's crates, floor by floor from the lowest (crates.txt has all crates): each stands behind those that it stands on.
+# values
+CRATES := rep_types rep_streams rep_forms rep_cert rep_record rep_backlog rep_saved rep_layout rep_versions rep_pages rep_transfer
+# disk
+CRATES += rep_disk rep_cells rep_pool rep_log
+# base
+CRATES += rep_steps rep_image rep_checkpoint
+# node
+CRATES += rep_engine rep_recover rep_replica rep_catchup
+# threads
+CRATES += rep_ordered rep_snap rep_stations rep_node
+# program
+CRATES += rep_script rep_serve rep_reasons rep_damage rep_command rep_files replicad
 PROGRAM := crates/replicad/out/replicad
 # What `make bench` needs beside these: what times the certifier against the plain node, and what times versions and pages of rows,
 # readers against a lock, and readers beside a node that serves.
-TIMED := rep_snap_uses rep_trials rep_timed
-COMPARE := crates/rep_trials/out/rep_trials
-PARTS := crates/rep_timed/out/rep_timed
+TIMED := uses_snap run_trials run_timed
+COMPARE := crates/run_trials/out/run_trials
+PARTS := crates/run_timed/out/run_timed
 
 .PHONY: run build test check edits gate-time bench soak toolchain
 

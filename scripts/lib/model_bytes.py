@@ -3,7 +3,7 @@ from lib.formats import (
     PAGE_ROWS, TWO, VERDICTS, change_bytes, entry_bytes, header_bytes, item_bytes, page_bytes, pages_of, record_bytes, snapshot_pieces,
     superblock_bytes, window_bytes, write_bytes,
 )
-from node_model import CLUSTER, SizeChange
+from lib.node_model import CLUSTER, SizeChange
 
 UUID = bytes.fromhex(CLUSTER.replace("-", ""))
 

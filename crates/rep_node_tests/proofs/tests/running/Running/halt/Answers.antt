@@ -1,5 +1,0 @@
-use Rattle.rep_node_tests.proofs.Running.{halts}
-use Rattle.rep_node_tests.proofs.tests.running.Running.halt.Goals as goal
-
-pub invariant_of-result : goal.invariant_of-result
-invariant_of-result g c = halts c.self.inside.node c.self.inside.seat c.halt.new.seat c.self.inside.reader c.self.invariant c.halt.ensures.lock c.halt.ensures.later

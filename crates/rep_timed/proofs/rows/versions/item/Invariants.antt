@@ -1,6 +1,0 @@
-use Rattle.std.proofs.Common.{◌≡◌, length}
-use Rattle.rep_timed.proofs.rows.versions.item.Given as goal
-
--- so many writes so far
-abbrev pub invariant-loop-i : goal.invariant-loop-i
-invariant-loop-i l = length l.writes.items ≡ l.i

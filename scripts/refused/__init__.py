@@ -1,0 +1,1 @@
+"""Growths of memory that scripts/growths refuses to lives and joins."""

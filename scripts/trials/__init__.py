@@ -1,0 +1,1 @@
+"""The trials of scripts/lives, one file for each subject."""
