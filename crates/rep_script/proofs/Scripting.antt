@@ -239,23 +239,14 @@ refused_on_disk g (Some text) old new opening refusal is_opening is = record {
 -- ---- in memory
 
 -- what a disk in memory is, for the definitions of any disk
-abbrev pub size_of : Memory → ℕ
-size_of m = length (stable m.history)
-
-abbrev pub failures_of : Memory → ℕ
-failures_of m = m.failures
-
-abbrev pub IsHonest : Memory → Type 0
-IsHonest m = Unit {0}
-
-abbrev pub history_of : Memory → History
-history_of m = m.history
+abbrev pub memory : Ghosts Memory
+memory = record { size = λ m. length (stable m.history); failures = λ m. m.failures; history = λ m. m.history; honest = λ m. Unit {0} }
 
 abbrev pub DoesInMemory : Replica Memory → Command → Replica Memory → Type 0
-DoesInMemory old c new = DoesOrStops size_of failures_of IsHonest history_of Crashes old c new
+DoesInMemory old c new = DoesOrStops memory Crashes old c new
 
 abbrev pub EndsInMemory : Reading Command → Result (Unit {0}) Refusal → Type 0
-EndsInMemory r result = ScriptEnds size_of failures_of IsHonest history_of Crashes r result
+EndsInMemory r result = ScriptEnds memory Crashes r result
 
 pub ran_in_memory : {D : Type 0} (g : Ghosts D) (crashes : Loss → D → D → Type 0) (old new : Replica D) (c : Option (Result Command Refusal)) →
     RunsLine g old c (Ok None) new → RanLine (DoesOrStops g crashes) old c new
@@ -378,23 +369,23 @@ script_read g crashes (Some text) left' u new p result is reads ends =
 -- ---- how a script in memory ends
 
 pub ends_in_memory : (p : Setting) (start : Option (List ℕ)) (first : Unread) (old r : Replica Memory) (result end : Result (Unit {0}) Refusal) → result ≡ end →
-    OnNewDisk size_of failures_of IsHonest history_of p (Ok old) → IfSome start (λ text. RunEnds DoesInMemory (said_ahead script_line first text) old end r) →
+    OnNewDisk memory p (Ok old) → IfSome start (λ text. RunEnds DoesInMemory (said_ahead script_line first text) old end r) →
     IfSome start (λ text. EndsInMemory (reading_of p (said_ahead script_line first text)) result)
 ends_in_memory p None first old r result end is on ends = tt
 ends_in_memory p (Some text) first old r result end is on ends =
     subst (λ e. EndsInMemory (reading_of p (said_ahead script_line first text)) e) (sym is)
-    (script_run_ends size_of failures_of IsHonest history_of Crashes p (said_ahead script_line first text) old r end on ends)
+    (script_run_ends memory Crashes p (said_ahead script_line first text) old r end on ends)
 
 pub stop_fails_in_memory : (p : Setting) (start left left' : Option (List ℕ)) (first u new : Unread) (old r mid : Replica Memory) (loss : Loss) (result : Result (Unit {0}) Refusal) (refusal : Refusal) (line : List ℕ) →
-    result ≡ Err refusal → OnNewDisk size_of failures_of IsHonest history_of p (Ok old) → IfSome start (λ text. HasRun DoesInMemory script_line text first old u (ahead u left) r) →
+    result ≡ Err refusal → OnNewDisk memory p (Ok old) → IfSome start (λ text. HasRun DoesInMemory script_line text first old u (ahead u left) r) →
     IfSome left (λ known. NextLine (u.pending ++ known) u (Ok true) new left' line) → new.number ≡ u.number + 1 →
-    RunsLine IsHonest history_of failures_of r (content script_line new.number line) (Ok (Some loss)) mid → Stops size_of failures_of IsHonest history_of Crashes loss mid (Err refusal) →
+    RunsLine memory r (content script_line new.number line) (Ok (Some loss)) mid → Stops memory Crashes loss mid (Err refusal) →
     IfSome start (λ text. EndsInMemory (reading_of p (said_ahead script_line first text)) result)
 stop_fails_in_memory p start left left' first u new old r mid loss result refusal line is on h next numbered ran stops =
-    let asked = stop_is_asked IsHonest history_of failures_of r mid (content script_line new.number line) loss ran in
+    let asked = stop_is_asked memory r mid (content script_line new.number line) loss ran in
     subst (λ e. IfSome start (λ text. EndsInMemory (reading_of p (said_ahead script_line first text)) e)) (sym is)
-    (script_stop_fails size_of failures_of IsHonest history_of Crashes p start left left' first u new old r loss refusal line on h next numbered asked.0
-    (subst (λ x. Stops size_of failures_of IsHonest history_of Crashes loss x (Err refusal)) asked.1 stops))
+    (script_stop_fails memory Crashes p start left left' first u new old r loss refusal line on h next numbered asked.0
+    (subst (λ x. Stops memory Crashes loss x (Err refusal)) asked.1 stops))
 
 -- the writer failed
 pub unwritten_in_memory : (p : Setting) (start : Option (List ℕ)) (first : Unread) (result : Result (Unit {0}) Refusal) (refusal : Refusal) → result ≡ Err refusal → refusal ≡ StreamFault →

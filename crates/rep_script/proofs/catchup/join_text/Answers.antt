@@ -34,12 +34,12 @@ returns-clause-told g c =
 
 pub returns-clause-joined : goal.returns-clause-joined
 returns-clause-joined g c =
-    either_way c.write_line-told.result _ (taken _ _ _ _ _ _ _ c.join-replica.result.1 c.in_default.field-0 c.in_default.is c.join-replica.ensures.quiet c.join-replica.ensures.took (λ n holds. c.join-replica.ensures.joined n holds))
+    either_way c.write_line-told.result _ (taken _ _ _ _ _ c.join-replica.result.1 c.in_default.field-0 c.in_default.is c.join-replica.ensures.quiet c.join-replica.ensures.took (λ n holds. c.join-replica.ensures.joined n holds))
 
 pub returns-clause-ended : goal.returns-clause-ended
 returns-clause-ended g c = λ running.
     IfErr-weaker c.write_line-told.result (λ e. (e ≡ StreamFault) × (g.W.Sink.failed c.write_line-told.new.writer ≡ true)) _
-    (λ e both. inr (both.0, both.1, taken _ _ _ _ _ _ _ c.join-replica.result.1 c.in_default.field-0 c.in_default.is c.join-replica.ensures.quiet c.join-replica.ensures.took (λ n holds. c.join-replica.ensures.joined n holds))) (when_failed _ _ c.write_line-told.result c.write_line-told.ensures.notes c.write_line-told.ensures.err)
+    (λ e both. inr (both.0, both.1, taken _ _ _ _ _ c.join-replica.result.1 c.in_default.field-0 c.in_default.is c.join-replica.ensures.quiet c.join-replica.ensures.took (λ n holds. c.join-replica.ensures.joined n holds))) (when_failed _ _ c.write_line-told.result c.write_line-told.ensures.notes c.write_line-told.ensures.err)
 
 -- ---- what is told of the device
 

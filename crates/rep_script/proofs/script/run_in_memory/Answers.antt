@@ -7,7 +7,7 @@ use Rattle.rep_script.specs.ScriptLines.{script_line}
 use Rattle.rep_script.specs.Judging.{content}
 use Rattle.rep_script.specs.Scripts.{Crashes, Stops, RunsLine}
 use Rattle.rep_script.proofs.Noting.{line_goes, line_stops, answer_stops, own_stops, text_ends}
-use Rattle.rep_script.proofs.Scripting.{size_of, failures_of, IsHonest, history_of, DoesInMemory, run_refused, run_all, run_more, run_line_ends, ran_in_memory, failed_in_memory, stop_ran, ends_in_memory, stop_fails_in_memory, unwritten_in_memory}
+use Rattle.rep_script.proofs.Scripting.{memory, DoesInMemory, run_refused, run_all, run_more, run_line_ends, ran_in_memory, failed_in_memory, stop_ran, ends_in_memory, stop_fails_in_memory, unwritten_in_memory}
 use Rattle.rep_script.proofs.script.run_in_memory.Goals as goal
 use Rattle.rep_script.proofs.script.run_in_memory.Goals.{After-run_line}
 
@@ -26,7 +26,7 @@ numbered g c = (rw (handed g c) at c.next_line.ensures.ok).0
 
 -- what it did to the replica
 did : (g : _) (c : After-run_line g) (result : Result (Option Loss) Refusal) → c.run_line.result ≡ result
-    → RunsLine IsHonest history_of failures_of c.lines.replica (content script_line c.next_line.new.text.number c.next_line.new.line.items) result c.run_line.new.replica
+    → RunsLine memory c.lines.replica (content script_line c.next_line.new.text.number c.next_line.new.line.items) result c.run_line.new.replica
 did g c result is = rw (← c.deref.ensures.0, ← c.number.ensures.number) (rw is at c.run_line.ensures.runs)
 
 pub returns-in_err-next_line-clause-ends : goal.returns-in_err-next_line-clause-ends
@@ -49,7 +49,7 @@ returns-in_err-loss-clause-ends g c p on =
     ends_in_memory p start c.args.text.now c.args.replica c.run_line.new.replica c.from_residual-in_err-loss.result (Err c.in_err-loss.field-0.0) (q.1 ∙ ap Err q.2) on
     (run_line_ends DoesInMemory script_line start (left c.lines.reader) (left c.next_line.new.reader) c.args.text.now c.lines.text c.next_line.new.text c.args.replica c.lines.replica
     c.run_line.new.replica c.in_err-loss.field-0.0 c.next_line.new.line.items c.lines.invariant.done (next g line) (numbered g line)
-    (failed_in_memory size_of failures_of IsHonest history_of Crashes c.lines.replica c.run_line.new.replica said c.in_err-loss.field-0.0 runs))
+    (failed_in_memory memory Crashes c.lines.replica c.run_line.new.replica said c.in_err-loss.field-0.0 runs))
 
 pub returns-in_err-replica-clause-ends : goal.returns-in_err-replica-clause-ends
 returns-in_err-replica-clause-ends g c p on =
@@ -57,7 +57,7 @@ returns-in_err-replica-clause-ends g c p on =
     let line = (goal.at.returns-in_err-replica-clause-ends g c).After-run_line in
     let said = content script_line c.next_line.new.text.number c.next_line.new.line.items in
     let runs = did g line (Ok (Some c.in-Some.loss)) (c.in_ok-loss.was ∙ ap Ok c.in-Some.is) in
-    let stops : Stops size_of failures_of IsHonest history_of Crashes c.in-Some.loss c.run_line.new.replica (Err c.in_err-replica.field-0.0) =
+    let stops : Stops memory Crashes c.in-Some.loss c.run_line.new.replica (Err c.in_err-replica.field-0.0) =
     rw c.in_err-replica.was at c.stopped_and_opened.ensures.stops in
     let q = err_from_is_err_and c.from_residual-in_err-replica.result c.from_residual-in_err-replica.ensures.1 in
     stop_fails_in_memory p (ahead c.args.text.now (left c.args.reader.now)) (left c.lines.reader) (left c.next_line.new.reader) c.args.text.now c.lines.text c.next_line.new.text
@@ -70,13 +70,13 @@ lines-preserved-in-Continue-branch-5 g c =
     let line = (goal.at.lines-preserved-in-Continue-branch-5 g c).After-run_line in
     let said = content script_line c.next_line.new.text.number c.next_line.new.line.items in
     let runs = did g line (Ok (Some c.in-Some.loss)) (c.in_ok-loss.was ∙ ap Ok c.in-Some.is) in
-    let stops : Stops size_of failures_of IsHonest history_of Crashes c.in-Some.loss c.run_line.new.replica (Ok c.in_ok-replica.replica) =
+    let stops : Stops memory Crashes c.in-Some.loss c.run_line.new.replica (Ok c.in_ok-replica.replica) =
     rw c.in_ok-replica.was at c.stopped_and_opened.ensures.stops in
     let was : c.next_line.result ≡ Ok true = handed g line in
     record {
       done = run_more DoesInMemory script_line (ahead c.args.text.now (left c.args.reader.now)) (left c.lines.reader) (left c.next_line.new.reader) c.args.text.now c.lines.text c.next_line.new.text
           c.args.replica c.lines.replica c.in_ok-replica.replica c.next_line.new.line.items c.lines.invariant.done (next g line) (numbered g line)
-          (stop_ran size_of failures_of IsHonest history_of Crashes c.lines.replica c.run_line.new.replica c.in_ok-replica.replica said c.in-Some.loss runs stops);
+          (stop_ran memory Crashes c.lines.replica c.run_line.new.replica c.in_ok-replica.replica said c.in-Some.loss runs stops);
       noted = line_goes _ _ _ _ _ _ _ _ _ true c.lines.invariant.noted (rw was at c.next_line.ensures.notes) (rw was at c.next_line.ensures.left);
     }
 
@@ -96,7 +96,7 @@ lines-preserved g c =
     record {
       done = run_more DoesInMemory script_line (ahead c.args.text.now (left c.args.reader.now)) (left c.lines.reader) (left c.next_line.new.reader) c.args.text.now c.lines.text c.next_line.new.text
           c.args.replica c.lines.replica c.run_line.new.replica c.next_line.new.line.items c.lines.invariant.done (next g line) (numbered g line)
-          (ran_in_memory size_of failures_of IsHonest history_of Crashes c.lines.replica c.run_line.new.replica said runs);
+          (ran_in_memory memory Crashes c.lines.replica c.run_line.new.replica said runs);
       noted = line_goes _ _ _ _ _ _ _ _ _ true c.lines.invariant.noted (rw was at c.next_line.ensures.notes) (rw was at c.next_line.ensures.left);
     }
 
