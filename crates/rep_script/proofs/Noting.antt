@@ -143,6 +143,14 @@ text_noted Long Whole r r' w w' result whole n = record {
   writer_fine = n.writer_fine;
 }
 
+-- it was read, and then answered
+pub read_and_told : {T U : Type 0} (Long : Type 0) (r r' w w' : Bool) (x : T) (result : Result U Refusal) → NotesText Long r r' (Ok x) → Notes w w' result → NotesBoth Long r r' w w' result
+read_and_told Long r r' w w' x result first n = record {
+  fault = λ is. inr (inl (n.fault is));
+  reader_fine = λ other. first.fine (λ is. absurd cc);
+  writer_fine = n.fine;
+}
+
 -- ---- a transfer
 
 -- a writer that has failed has noted it

@@ -17,7 +17,6 @@ use Rattle.rep_types.specs.Windows.{Window}
 use Rattle.rep_types.specs.Order.{Order, State}
 use Rattle.rep_record.specs.Records.{IsRecord}
 use Rattle.rep_disk.specs.declared.disk.Disk.{Ghosts}
-use Rattle.rep_disk.specs.History.{History}
 use Rattle.rep_disk.specs.Calls.{Rises}
 use Rattle.rep_layout.specs.declared.format.Format.{Format}
 use Rattle.rep_layout.specs.declared.format.Format.TheVariants.{Two}
@@ -74,12 +73,12 @@ module _ {D : Type 0} (g : Ghosts D) (O : Order) (n k : Node) (may : MayCatchUp 
   }
 
   -- so it is refused for nothing that it says
-  pub is_served : {E : Type 0} (just : E → Type 0) (past : E → History) (faults : E → ℕ) (donor : Replica E) (have : Have) → have ≡ have_of joiner → Holds just past faults n donor → IsFirstRefusal (facts_of faults donor) have None
-  is_served just past faults donor have is standing =
-      let there : n.facts ≡ facts_of faults donor = standing.facts in
-      let runs : (facts_of faults donor).stopped ≡ false = ap (λ (s : Standing). s.stopped) (sym there) ∙ may.donor_runs in
+  pub is_served : {E : Type 0} (e : Ghosts E) (donor : Replica E) (have : Have) → have ≡ have_of joiner → Holds e n donor → IsFirstRefusal (facts_of e donor) have None
+  is_served e donor have is standing =
+      let there : n.facts ≡ facts_of e donor = standing.facts in
+      let runs : (facts_of e donor).stopped ≡ false = ap (λ (s : Standing). s.stopped) (sym there) ∙ may.donor_runs in
       let uuid : have.uuid ≡ k.facts.uuid = (is_joiner have is).uuid in
-      let cluster : IsOfCluster (facts_of faults donor) have = record {
+      let cluster : IsOfCluster (facts_of e donor) have = record {
         shape = ap (λ (h : Have). h.shape) is ∙ ap (λ (s : Standing). shape_of s.setting) (sym own) ∙ may.shape ∙ ap (λ (s : Standing). shape_of s.setting) there;
         cluster = of_cluster may.cluster;
       } in
@@ -91,7 +90,7 @@ module _ {D : Type 0} (g : Ghosts D) (O : Order) (n k : Node) (may : MayCatchUp 
         none = λ _ _ _ _. refl;
       }
     where
-      of_cluster : (k.facts.uuid ≡ n.facts.uuid) ⊎ IsNil k.facts.uuid → (have.uuid ≡ (facts_of faults donor).uuid) ⊎ IsNil have.uuid
+      of_cluster : (k.facts.uuid ≡ n.facts.uuid) ⊎ IsNil k.facts.uuid → (have.uuid ≡ (facts_of e donor).uuid) ⊎ IsNil have.uuid
       of_cluster (inl same) = inl ((is_joiner have is).uuid ∙ same ∙ ap (λ (s : Standing). s.uuid) standing.facts)
       of_cluster (inr nil) = inr (subst IsNil (sym (is_joiner have is).uuid) nil)
 
