@@ -1,6 +1,6 @@
 //! Numbers and bytes.
 
-ghost use Rattle.std.specs.Prelude.{◌≡◌, ◌+◌, ◌≤◌, ◌++◌, length, option_map, IfSome};
+ghost use Rattle.std.specs.Prelude.{◌≡◌, ◌+◌, ◌≤◌, ◌++◌, length, option_map, IfSome, ◌*◌};
 ghost use Rattle.rep_forms.specs.Forms.{Puts, Strips, number, byte, part, part_of, first_byte, zeros, are_blank};
 
 use crate::form::{Form, Put};
@@ -116,15 +116,28 @@ pub fn put_u64<const N: usize>(out: &mut ArrayVec<u8, N>, value: u64)
     put_bytes(out, &bytes);
 }
 
+/// How many zeros are put at a time.
+const BLANK: usize = 64;
+
+/// Puts so many times 64 zeros at the end. `out` has room for them.
+#[tactic(auto, using(crate::proofs::Putting::blanks_so_far))]
+fn put_blanks<const N: usize>(out: &mut ArrayVec<u8, N>, count: usize)
+    requires { length out.old.items + 64 * count ≤ N }
+    ensures { out.new.items ≡ out.old.items ++ zeros (64 * count) }
+{
+    for _ in 0..count {
+        put_bytes(out, &[0; BLANK]);
+    }
+}
+
 /// Puts so many zeros at the end. `out` has room for them.
-#[tactic(auto, using(crate::proofs::Putting::zeros_so_far))]
+#[tactic(auto, using(crate::proofs::Putting::blanks_and_zeros))]
 pub fn put_zeros<const N: usize>(out: &mut ArrayVec<u8, N>, count: usize)
     requires { length out.old.items + count ≤ N }
     ensures { out.new.items ≡ out.old.items ++ zeros count }
 {
-    for _ in 0..count {
-        out.push(0);
-    }
+    put_blanks(out, count / BLANK);
+    put_bytes(out, &[0; BLANK][..count % BLANK]);
 }
 
 /// What stands behind this front, where the bytes begin with it.
