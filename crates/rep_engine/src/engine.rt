@@ -1,6 +1,6 @@
 //! What an engine holds, and the steps that write.
 
-ghost use Rattle.std.specs.Prelude.{◌≡◌, ◌≢◌, ◌⊎◌, ◌+◌, ◌-◌, ◌<◌, ◌==◌, [], nat_le, if◌then◌else◌, true, false, length, map, is_some, Some, None, Err, IsErr, IfSome, IfErr, OnOk, OnErr, MatchOption};
+ghost use Rattle.std.specs.Prelude.{◌≡◌, ◌≢◌, ◌⊎◌, ◌+◌, ◌-◌, ◌<◌, ◌≤◌, ◌==◌, [], nat_le, if◌then◌else◌, true, false, length, map, is_some, Some, None, Err, IsErr, IfSome, IfErr, OnOk, OnErr, MatchOption};
 ghost use Rattle.rep_types.specs.declared.refusal.Refusal.TheVariants.{OutOfMemory, DiskFault, LogFull, Stopped};
 ghost use Rattle.rep_types.specs.Replies.{reply_of};
 ghost use Rattle.rep_disk.specs.History.{Synced};
@@ -18,7 +18,7 @@ ghost use Rattle.rep_log.specs.Standing.{due_of};
 ghost use Rattle.rep_log.specs.Moves.{after_sync, started, fault_of, SyncsLog, StartsLater};
 ghost use Rattle.rep_checkpoint.specs.Moves.{after_sync as checkpoint_after, is_opening};
 ghost use Rattle.rep_checkpoint.specs.Calls.{SyncsTo};
-ghost use Rattle.rep_checkpoint.specs.Standing.{due_in};
+ghost use Rattle.rep_checkpoint.specs.Standing.{due_in, left_in};
 ghost use Rattle.rep_pool.specs.BasePages.{IsPooled};
 ghost use Rattle.rep_engine.specs.Writing.{written_in, left_of, told_of, PrunesIf};
 ghost use Rattle.rep_engine.specs.Holding.{Holds, wrote, synced};
@@ -299,6 +299,21 @@ impl<D: Disk> Engine<D> {
         ensures { result ≡ due_in self.now.checkpoint.stage }
     {
         self.checkpoint.step_due()
+    }
+
+    /// How many pages the checkpoint under way has left to flush.
+    pub fn pages_left(&self) -> usize
+        ensures { result ≡ length (left_in self.now.checkpoint.stage) }
+    {
+        self.checkpoint.left().len()
+    }
+
+    /// How many cells of the log are live: those of the blocks behind the base.
+    pub fn cells_live(&self) -> u64
+        ensures live { self.now.log.start + result ≡ self.now.log.next }
+        ensures within { result ≤ self.now.checkpoint.base.params.cells }
+    {
+        self.log.next() - self.log.start()
     }
 
     /// Whether the device has failed: the engine then refuses everything.

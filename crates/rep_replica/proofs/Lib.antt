@@ -1,3 +1,4 @@
+pub mod Asking
 pub mod Lists
 pub mod Widening
 pub mod Placing

@@ -8,6 +8,7 @@ pub mod Reading
 pub mod Stopping
 pub mod Lives
 pub mod Episodes
+pub mod Asking
 pub mod Settling
 pub mod SettlingLaws
 pub mod Committing

@@ -12,6 +12,7 @@ ghost use Rattle.rep_pages.specs.Slots.{state_of_page};
 ghost use Rattle.rep_steps.specs.Nodes.{Node};
 ghost use Rattle.rep_engine.specs.Donating.{IsTailBlock, IsBlockAsSpelled, IsBasePage, HasNoRow, IsWindowAsSpelled, IsBasePageAsSpelled};
 ghost use Rattle.rep_replica.specs.Holding.{Holds};
+ghost use Rattle.rep_replica.specs.Asking.{IsAsked};
 ghost use Rattle.rep_replica.specs.Donating.{Asks};
 
 use crate::replica::Replica;
@@ -33,6 +34,7 @@ impl<D: Disk> Replica<D> {
         room: &'a mut [u8; LOG_BODY],
     ) -> Result<Option<BlockReader<'a>>, Refusal>
         ensures asks { Asks D.Disk in_log self.old self.new result }
+        ensures asked { IsAsked D.Disk self.old self.new }
         ensures none { IfOk result (λ found. is_some found ≡ nat_lt index (self.old.engine.log.next - self.old.engine.log.start)) }
         // And None is given there, whatever stands on the device.
         ensures behind { nat_lt index (self.old.engine.log.next - self.old.engine.log.start) ≡ false → (self.old.stopped || is_some self.old.engine.halted) ≡ false → result ≡ Ok None }
@@ -62,6 +64,7 @@ impl<D: Disk> Replica<D> {
         room: &'a mut [u8; WINDOW_BODY],
     ) -> Result<WindowReader<'a>, Refusal>
         ensures asks { Asks D.Disk in_window self.old self.new result }
+        ensures asked { IsAsked D.Disk self.old self.new }
         // On any device what is given can be the window of the base.
         ensures form { IfOk result (λ w. (w ≡ beside self.old.engine.checkpoint.base w.kept) × IsWindowBody self.old.engine.checkpoint.base.params w) }
         ensures holds { (n : Node) → Holds D.Disk n self.old → result ≢ Err Refusal.DiskFault → Holds D.Disk n self.new }
@@ -84,6 +87,7 @@ impl<D: Disk> Replica<D> {
     /// node shows no such page.
     pub fn base_page(&mut self, page: u32) -> Result<Option<Page>, Refusal>
         ensures asks { Asks D.Disk in_pages self.old self.new result }
+        ensures asked { IsAsked D.Disk self.old self.new }
         ensures none { IfOk result (λ found. (found ≡ None → state_of_page self.old.engine.checkpoint.base page ≡ Nowhere) × (state_of_page self.old.engine.checkpoint.base page ≡ Nowhere → found ≡ None)) }
         ensures holds { (n : Node) → Holds D.Disk n self.old → result ≢ Err Refusal.DiskFault → Holds D.Disk n self.new }
         ensures page { (n : Node) → Holds D.Disk n self.old → IfOk result (λ found. IfSome found (IsBasePage self.old.engine.checkpoint.base n.base.content page)) }

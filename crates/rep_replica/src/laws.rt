@@ -6,6 +6,7 @@ ghost use Rattle.rep_replica.specs.Reading.{ReadsForgetNothing};
 ghost use Rattle.rep_replica.specs.Stopping.{StoppedReplicasHold, StopsLeaveWhatHolds};
 ghost use Rattle.rep_replica.specs.Lives.{LivesFollowTheOrder};
 ghost use Rattle.rep_replica.specs.Episodes.{LivesWithSnapshotsFollowTheOrder};
+ghost use Rattle.rep_replica.specs.Asking.{AsksAreGivenUp};
 
 use crate::replica::Replica;
 use rep_disk::{Disk, moments_of_calls};
@@ -119,3 +120,10 @@ pub fn reads_forget_nothing<D: Disk>()
     nodes_outlast_failures();
     steps_follow_the_order();
 }
+
+/// A call that asks the device and does nothing else, as those for a joiner, is a part of a life in which a snapshot is given up before any of it
+/// came: the replica stands for the node that it stood for, which is stopped where its device failed, and a stop leaves what it would have
+/// left before. So who drives a replica by events, and asks it between them, has a life.
+pub fn asks_are_given_up<D: Disk>()
+    ensures { AsksAreGivenUp D.Disk }
+{}

@@ -13,8 +13,8 @@ mod step;
 
 pub use install::Installation;
 pub use laws::{
-    certifiers_judge_as_nodes, lives_follow_the_order, lives_with_snapshots_follow_the_order,
-    reads_forget_nothing, running_replicas_leave_their_ends, runs_are_joined,
-    stopped_replicas_hold,
+    asks_are_given_up, certifiers_judge_as_nodes, lives_follow_the_order,
+    lives_with_snapshots_follow_the_order, reads_forget_nothing, running_replicas_leave_their_ends,
+    runs_are_joined, stopped_replicas_hold,
 };
 pub use replica::Replica;

@@ -1,6 +1,6 @@
 //! What a replica holds, and what it says of itself.
 
-ghost use Rattle.std.specs.Prelude.{◌≡◌, ◌≤◌, ◌||◌, ◌↔◌, ℕ, false, length, is_some, Some, IfOk, IfErr};
+ghost use Rattle.std.specs.Prelude.{◌≡◌, ◌+◌, ◌≤◌, ◌||◌, ◌↔◌, ℕ, false, length, is_some, Some, IfOk, IfErr};
 ghost use Rattle.rep_layout.specs.declared.page_state.PageState.TheVariants.{Nowhere};
 ghost use Rattle.rep_pages.specs.Slots.{state_of_page};
 ghost use Rattle.rep_cert.specs.Holdings.{window_of, verdict_of};
@@ -9,6 +9,7 @@ ghost use Rattle.rep_steps.specs.Nodes.{Node, verdict_for, window_at};
 ghost use Rattle.rep_engine.specs.Engines.{facts_of as engine_facts, gtid_of, durable_of};
 ghost use Rattle.rep_replica.specs.Replicas.{IsReplica, facts_of};
 ghost use Rattle.rep_replica.specs.Holding.{Holds};
+ghost use Rattle.rep_replica.specs.Committing.{pages_left};
 
 use rep_backlog::Backlog;
 use rep_cert::Certifier;
@@ -138,6 +139,21 @@ impl<D: Disk> Replica<D> {
         ensures { result ≡ self.now.engine.checkpoint.base.position }
     {
         self.engine.base()
+    }
+
+    /// How many pages the checkpoint under way has left to flush; 0 where none is under way.
+    pub fn pages_left(&self) -> usize
+        ensures { result ≡ length (pages_left (facts_of D.Disk self.now).stage) }
+    {
+        self.engine.pages_left()
+    }
+
+    /// How many of the log's cells are live: those of the durable blocks behind the base.
+    pub fn cells_live(&self) -> u64
+        ensures live { (facts_of D.Disk self.now).start + result ≡ (facts_of D.Disk self.now).next }
+        ensures within { result ≤ (facts_of D.Disk self.now).setting.cells }
+    {
+        self.engine.cells_live()
     }
 
     /// The GTID of what is durable: the state UUID and the seqno of the last durable item; that of a node without

@@ -2,9 +2,11 @@
 
 mod cert;
 mod layout;
+mod lines;
 mod pages;
 mod plain;
 mod record;
+mod requests;
 mod rows;
 mod saved;
 mod types;

@@ -8,6 +8,7 @@ use Rattle.rep_pages.specs.Slots.{state_of_page}
 use Rattle.rep_engine.specs.Donating.{IsBasePage, HasNoRow}
 use Rattle.rep_replica.specs.Replicas.{Replica}
 use Rattle.rep_replica.proofs.Donating.{asks, holds_on, base_of_all, holds_running, no_page}
+use Rattle.rep_replica.proofs.Asking.{asked_none, is_asked}
 use Rattle.rep_replica.proofs.replica.Replica.base_page.Goals as goal
 
 abbrev within : (g : _) (c : goal.After-base_page g) → Replica g.row.D.Denot
@@ -43,3 +44,10 @@ returns-clause-whole g c n holds =
 
 pub returns-then-is_stopped-clause-spelled : goal.returns-then-is_stopped-clause-spelled
 returns-then-is_stopped-clause-spelled g c honest = no_page _ c.args.self.now.engine.checkpoint.base c.args.page in_pages
+
+pub returns-then-is_stopped-clause-asked : goal.returns-then-is_stopped-clause-asked
+returns-then-is_stopped-clause-asked g c = asked_none g.D.Disk c.args.self.now
+
+pub returns-clause-asked : goal.returns-clause-asked
+returns-clause-asked g c =
+    is_asked g.D.Disk in_pages c.args.self.now _ c.base_page.result (returns-clause-asks g c) (returns-clause-holds g c)

@@ -4,6 +4,7 @@ use Rattle.rep_types.specs.declared.refusal.Part.TheVariants.{Window as in_windo
 use Rattle.rep_types.specs.Order.{State}
 use Rattle.rep_replica.specs.Replicas.{Replica}
 use Rattle.rep_replica.proofs.Donating.{asks, holds_on, base_of_all, no_window}
+use Rattle.rep_replica.proofs.Asking.{asked_none, is_asked}
 use Rattle.rep_replica.proofs.replica.Replica.base_window.Goals as goal
 
 abbrev within : (g : _) (c : goal.After-base_window g) → Replica g.row.D.Denot
@@ -28,3 +29,10 @@ returns-clause-whole g c n holds =
 
 pub returns-then-is_stopped-clause-spelled : goal.returns-then-is_stopped-clause-spelled
 returns-then-is_stopped-clause-spelled g c honest = no_window _ c.args.self.now.engine.checkpoint.base in_window
+
+pub returns-then-is_stopped-clause-asked : goal.returns-then-is_stopped-clause-asked
+returns-then-is_stopped-clause-asked g c = asked_none g.D.Disk c.args.self.now
+
+pub returns-clause-asked : goal.returns-clause-asked
+returns-clause-asked g c =
+    is_asked g.D.Disk in_window c.args.self.now _ c.base_window.result (returns-clause-asks g c) (returns-clause-holds g c)

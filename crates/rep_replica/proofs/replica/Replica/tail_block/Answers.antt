@@ -3,6 +3,7 @@ use Rattle.rep_types.specs.declared.refusal.Refusal.TheVariants.{Corrupt}
 use Rattle.rep_types.specs.declared.refusal.Part.TheVariants.{Log as in_log}
 use Rattle.rep_replica.specs.Replicas.{Replica}
 use Rattle.rep_replica.proofs.Donating.{asks, holds_on, block_of_all, base_of_all, no_block}
+use Rattle.rep_replica.proofs.Asking.{asked_none, is_asked}
 use Rattle.rep_replica.proofs.replica.Replica.tail_block.Goals as goal
 
 abbrev within : (g : _) (c : goal.After-tail_block g) → Replica g.row.D.Denot
@@ -30,3 +31,10 @@ returns-then-is_stopped-clause-spelled g c honest = no_block _ _ _ _
 
 pub returns-clause-fits : goal.returns-clause-fits
 returns-clause-fits g c other = subst (λ (r : Replica g.row.D.Denot). r.engine.log.next < 2 ^ 64) c.self.view_is (c.tail_block.ensures.fits other)
+
+pub returns-then-is_stopped-clause-asked : goal.returns-then-is_stopped-clause-asked
+returns-then-is_stopped-clause-asked g c = asked_none g.D.Disk c.args.self.now
+
+pub returns-clause-asked : goal.returns-clause-asked
+returns-clause-asked g c =
+    is_asked g.D.Disk in_log c.args.self.now _ c.tail_block.result (returns-clause-asks g c) (returns-clause-holds g c)

@@ -1,0 +1,4 @@
+pub mod Clipping
+pub mod Places
+pub mod Ahead
+pub mod Ranges

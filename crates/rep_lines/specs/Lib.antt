@@ -1,0 +1,3 @@
+pub mod Lines
+pub mod Feeds
+pub mod Laws
