@@ -124,7 +124,7 @@ fn deliver<D: Disk>(replica: &mut Replica<D>, judged: Judged, at: u64) -> Result
     match replica.step(Event::delivery(seqno, item)) {
         Answer::Gave(_) => Ok(()),
         Answer::Refused(refusal) => Err(refusal),
-        _ => Err(malformed),
+        _ => unreachable!(),
     }
 }
 

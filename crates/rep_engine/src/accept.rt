@@ -24,6 +24,7 @@ use rep_record::{BlockBuilder, fronts_are_determined};
 use rep_steps::Replies;
 use rep_types::{Judged, Refusal};
 use rep_versions::{Versions, add_is_taken_back, versions_follow_the_items};
+use std::alloc::Global;
 
 /// Adds what the item wrote, where it takes effect.
 fn add_item(versions: &mut Versions, judged: &Judged) -> Result<(), Refusal>
@@ -66,26 +67,65 @@ fn add_items(
     Ok(())
 }
 
-/// Adds the reply to the origin of the item at this place.
-fn add_reply(replies: &mut Replies, backlog: &Backlog, i: usize)
+/// Adds the reply to the origin of the item at this place. Memory may be refused for the first of all alone.
+fn add_reply(
+    replies: &mut Replies,
+    alloc: Global,
+    backlog: &Backlog,
+    i: usize,
+) -> Result<(), Refusal>
     requires within { i < length backlog.now }
     requires room { length replies.old < 64 }
-    ensures { (j : Judged) → slice_get backlog.now i ≡ Some j → replies.new ≡ replies.old ++ reply_of j ∷ [] }
+    ensures added { OnOk result ((j : Judged) → slice_get backlog.now i ≡ Some j → replies.new ≡ replies.old ++ reply_of j ∷ []) }
+    ensures refused { IfErr result (λ e. (e ≡ OutOfMemory) × (replies.old ≡ []) × (replies.new ≡ [])) }
 {
-    if let Some(judged) = backlog.get(i) {
-        replies.push(judged.reply());
+    match backlog.get(i) {
+        Some(judged) => replies.push(alloc, judged.reply()),
+        None => Ok(()),
     }
 }
 
-/// Adds the replies to the origins of the first so many items.
-fn add_replies(replies: &mut Replies, backlog: &Backlog, count: u16)
+/// Adds the replies to the origins of the first so many items, or none.
+fn add_replies(
+    replies: &mut Replies,
+    alloc: Global,
+    backlog: &Backlog,
+    count: u16,
+) -> Result<(), Refusal>
     requires within { count ≤ length backlog.now }
     requires room { length replies.old + count ≤ 64 }
-    ensures { replies.new ≡ replies.old ++ map reply_of (take count backlog.now) }
+    ensures added { OnOk result (replies.new ≡ replies.old ++ map reply_of (take count backlog.now)) }
+    ensures refused { IfErr result (λ e. (e ≡ OutOfMemory) × (0 < count) × (replies.new ≡ replies.old)) }
 {
     for i in 0..usize::from(count) {
-        add_reply(replies, backlog, i);
+        add_reply(replies, alloc, backlog, i)?;
     }
+    Ok(())
+}
+
+/// Adds the replies to the origins of the first so many items, and what these wrote. Where memory is refused, it adds neither.
+fn add_front(
+    replies: &mut Replies,
+    versions: &mut Versions,
+    alloc: Global,
+    backlog: &Backlog,
+    count: u16,
+) -> Result<(), Refusal>
+    requires within { count ≤ length backlog.now }
+    requires room { length replies.old + count ≤ 64 }
+    ensures replies { OnOk result (replies.new ≡ replies.old ++ map reply_of (take count backlog.now)) }
+    ensures added { OnOk result (AddsItems (take count backlog.now) versions.old versions.new) }
+    ensures refused { IfErr result (λ e. (e ≡ OutOfMemory) × (0 < count)) }
+    ensures none { OnErr result (replies.new ≡ replies.old) }
+    ensures unchanged { (base last : ℕ) → base ≤ last → SeqnosFrom (last + 1) backlog.now → AreWithin base last versions.old → OnErr result (versions.new ≡ versions.old) }
+{
+    let before = replies.len();
+    add_replies(replies, alloc, backlog, count)?;
+    let added = add_items(versions, backlog, 0, count);
+    if added.is_err() {
+        replies.truncate(before);
+    }
+    added
 }
 
 /// Moves the next items out of the backlog into the block, the longest front that fits: each once, in order.
@@ -110,7 +150,7 @@ impl<D: Disk> Engine<D> {
     }
 
     /// Takes items from the backlog for the log's next block, the longest front that fits, and says how many:
-    /// none while the block is on its way to the disk. Room for what they wrote is taken here.
+    /// none while the block is on its way to the disk. Room for what they wrote, and for the replies to their origins, is taken here.
     ///
     /// Refuses with `Stopped` where the device has failed before, and with `OutOfMemory` where there is
     /// something to take; engine and backlog are then as they were.
@@ -134,8 +174,13 @@ impl<D: Disk> Engine<D> {
         fronts_are_determined();
         the_log_is_apart();
         let count = self.next_items(backlog);
-        add_items(&mut self.versions, backlog, 0, count)?;
-        add_replies(&mut self.replies, backlog, count);
+        add_front(
+            &mut self.replies,
+            &mut self.versions,
+            self.alloc,
+            backlog,
+            count,
+        )?;
         if count > 0 {
             move_items(&mut self.block, backlog);
         }

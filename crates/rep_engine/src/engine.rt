@@ -71,7 +71,7 @@ pub(crate) fn halted_by<T>(phase: Phase, outcome: &Result<T, Refusal>) -> Option
 /// No contract tells whether one is: what a kept page gives is what the device has.
 #[derive(Drop)]
 pub struct Engine<D: Disk> {
-    /// Where a checkpoint takes its memory.
+    /// Where a checkpoint and the replies take their memory.
     pub(crate) alloc: Global,
     pub(crate) cells: Cells<D>,
     /// The base's pages that were read last. It agrees with the device while that has not failed.

@@ -79,7 +79,7 @@ impl<D: Disk> Replica<D> {
         let mut left = pages;
         while let Some(page) = self.next_page(left) {
             let answer = self.flush(page);
-            if let Err(refusal) = outcome(&answer) {
+            if let Err(refusal) = outcome(answer) {
                 return Err(refusal);
             }
             left -= 1;
@@ -104,7 +104,7 @@ impl<D: Disk> Replica<D> {
             return Ok(left);
         };
         let answer = self.check();
-        match outcome(&answer) {
+        match outcome(answer) {
             Ok(()) => Ok(left),
             Err(refusal) => Err(refusal),
         }
@@ -152,7 +152,7 @@ impl<D: Disk> Replica<D> {
         let _durable = self.durable();
         let _log = self.engine.durable();
         let answer = self.log();
-        match outcome(&answer) {
+        match outcome(answer) {
             Ok(()) => Ok((pages, Replies::new())),
             Err(refusal) => Err(refusal),
         }
@@ -218,7 +218,8 @@ impl<D: Disk> Replica<D> {
     }
 
     /// Makes the next block of what was delivered durable, and gives the replies to the origins of its items, in the order of their
-    /// seqnos: at most 64, for which it takes no memory. Where nothing waits it does nothing and gives none.
+    /// seqnos: at most 64, for which memory is taken before anything of the block is written. Where nothing waits it does nothing and
+    /// gives none.
     ///
     /// What the checkpoint under way writes rides on the syncs of the block: of its pages at most so many. It begins no checkpoint and
     /// syncs nothing for one, but where the log is full, so that there is no cell for the block: then the checkpoint under way is

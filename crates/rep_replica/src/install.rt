@@ -153,11 +153,11 @@ impl<D: Disk> Replica<D> {
         ensures fronts { (n : Node) → Holds D.Disk n self.old → OnErr result (LeavesFronts D.Disk n self.new) }
         ensures leaves { (n : Node) → Holds D.Disk n self.old → LeavesOnly (D.history self.old.engine.disk) (D.history self.new.engine.disk) (IsFrontAt Means n) }
     {
-        let checked = outcome(&self.check());
+        let checked = outcome(self.check());
         if checked.is_err() {
             return checked;
         }
-        outcome(&self.sync())
+        outcome(self.sync())
     }
 }
 

@@ -20,11 +20,11 @@ use rep_steps::{Answer, Event};
 use rep_types::Refusal;
 
 /// What came of a step.
-pub(crate) fn outcome(answer: &Answer) -> Result<(), Refusal>
-    ensures { result ≡ outcome_of answer.now }
+pub(crate) fn outcome(answer: Answer) -> Result<(), Refusal>
+    ensures { result ≡ outcome_of answer }
 {
     match answer {
-        Answer::Refused(refusal) => Err(*refusal),
+        Answer::Refused(refusal) => Err(refusal),
         Answer::Gave(_) | Answer::Wrote | Answer::Began(_) | Answer::Synced(_) | Answer::Row(_) =>
             Ok(()),
     }
@@ -65,7 +65,7 @@ impl<D: Disk> Replica<D> {
         runs_are_joined::<D>();
         while let Some(event) = self.checkpoint_event() {
             let answer = self.step(event);
-            let ended = outcome(&answer);
+            let ended = outcome(answer);
             if ended.is_err() {
                 return ended;
             }
@@ -90,7 +90,7 @@ impl<D: Disk> Replica<D> {
         runs_are_joined::<D>();
         // Tells the proof what holds of the engine.
         let _durable = self.engine.durable();
-        let ended = outcome(&self.check());
+        let ended = outcome(self.check());
         if ended.is_err() {
             return ended;
         }
@@ -125,8 +125,8 @@ impl<D: Disk> Replica<D> {
         let _log = self.engine.durable();
         match self.engine.log_step() {
             Step::Full => self.make_room(),
-            Step::Sync => outcome(&self.sync()),
-            Step::Recycle | Step::Seal | Step::Gate => outcome(&self.log()),
+            Step::Sync => outcome(self.sync()),
+            Step::Recycle | Step::Seal | Step::Gate => outcome(self.log()),
         }
     }
 

@@ -83,8 +83,8 @@ returns-in-Refused g c =
 
 -- ---- there is no other answer
 
-pub returns-in_default : goal.returns-in_default
-returns-in_default g c =
+pub unreachable-requires : goal.unreachable-requires
+unreachable-requires g c =
     absurd (elim (delivery_answers (facts_of g.D.Disk c.args.replica.now) (facts_of g.D.Disk c.step.new.self) c.args.judged.seqno c.args.judged.item c.step.result
     (subst (λ (e : Event). Moves (facts_of g.D.Disk c.args.replica.now) e c.step.result (facts_of g.D.Disk c.step.new.self)) c.delivery.ensures c.step.ensures.step.moves)) [
       | inl gave ↦ c.in_default.not-Gave gave.0 gave.1

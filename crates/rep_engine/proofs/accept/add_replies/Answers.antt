@@ -8,7 +8,7 @@ pub loop-i-preserved : goal.loop-i-preserved
 loop-i-preserved c =
     let there = one_there c.args.backlog.now c.loop-i.i (omega (arith, c.loop-i-test.true, c.loop-i.invariant.end, c.requires.within)) in
     let j = there.0 in
-    let pushed : c.add_reply.new.replies ≡ c.loop-i.replies ++ reply_of j ∷ [] = c.add_reply.ensures j there.1 in
+    let pushed : c.add_reply.new.replies ≡ c.loop-i.replies ++ reply_of j ∷ [] = c.in_ok-add_reply.ensures.added j there.1 in
     record {
       end = c.loop-i.invariant.end;
       within = omega (arith, c.loop-i-test.true, c.loop-i.invariant.end);
