@@ -8,7 +8,7 @@ CRATES += rep_disk rep_cells rep_pool rep_log
 # base
 CRATES += rep_steps rep_image rep_checkpoint
 # node
-CRATES += rep_engine rep_recover rep_replica rep_catchup
+CRATES += rep_engine rep_recover rep_replica rep_catchup rep_sum
 # threads
 CRATES += rep_ordered rep_snap rep_stations rep_node
 # program

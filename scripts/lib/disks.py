@@ -33,12 +33,12 @@ def window_head(q, position, of_format=TWO):
     return empty_window(q, position, of_format)[: Window.ZEROS.at].hex()
 
 
-def sum_of(data):
-    """The line that shows these bytes of a disk: how many, and the sum over them (FNV-1a, 64 bits)."""
+def fingerprint_of(data):
+    """The line that shows these bytes of a disk: how many, and their fingerprint (FNV-1a, 64 bits)."""
     total = 0xCBF29CE484222325
     for byte in data:
         total = (total ^ byte) * 0x100000001B3 % 2**64
-    return "sum %d %d" % (len(data), total)
+    return "fingerprint %d %d" % (len(data), total)
 
 
 def new_bytes(of_format=TWO):
@@ -98,10 +98,10 @@ def last_line(program, text):
 
 def comes_back(program, trial, refusal):
     """The opening is refused, once and again, and the disk's bytes are as they were."""
-    before = last_line(program, trial.text() + "sum\n")
+    before = last_line(program, trial.text() + "fingerprint\n")
     for _ in range(2):
         trial.say("open", "refused " + refusal)
-        trial.say("sum", before)
+        trial.say("fingerprint", before)
     return trial
 
 

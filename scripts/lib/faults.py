@@ -1,5 +1,5 @@
 """A device that fails at each call in turn, once or from then on: what is refused, and what opens behind it."""
-from lib.disks import new_bytes, sum_of
+from lib.disks import fingerprint_of, new_bytes
 from lib.formats import FORMATS, TWO
 from lib.node_model import CLUSTER, LOSSES
 from lib.trial import Life, Trial, answers
@@ -7,7 +7,7 @@ from lib.trial import Life, Trial, answers
 FAULT = "refused 2 disk-fault"
 STOPPED = "refused 3 stopped"
 # What shows a new disk of each format.
-NEW = {of_format: sum_of(new_bytes(of_format)) for of_format in FORMATS}
+NEW = {of_format: fingerprint_of(new_bytes(of_format)) for of_format in FORMATS}
 # More calls than any of these lives makes.
 MANY = 400
 
@@ -71,7 +71,7 @@ def behind_a_fault(script, kind, call, failed, loss, of_format):
     if failed is None:
         trial.say("open", FAULT)
         trial.say(script.batch(), "off")
-        trial.say("sum", NEW[of_format])
+        trial.say("fingerprint", NEW[of_format])
     else:
         trial.say("open", "open %s:0" % CLUSTER)
         refused = [[FAULT]] + [[STOPPED]] * len(script.events)

@@ -379,3 +379,12 @@ class End:
 
 def end_bytes(last):
     return END + number_bytes(last)
+
+
+# ---- sums
+
+
+def sum_bytes(uuid, position, rows):
+    """What is digested of these rows, by their keys; a row that is absent is none of them."""
+    each = [key_bytes(key) + number_bytes(len(value), 1) + value for key, value in sorted(rows.items())]
+    return b"".join([uuid, number_bytes(position)] + each)

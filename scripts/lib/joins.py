@@ -1,7 +1,7 @@
 """Joins of nodes to a donor, as trials play them: the donor, its transfers and the joiners."""
 from functools import lru_cache
 
-from lib.disks import sum_of
+from lib.disks import fingerprint_of
 from lib.faults import FAULT, STOPPED, calls_of_an_opening
 from lib.formats import ONE, TWO, Header, end_bytes
 from lib.installs import AT, ITEMS, PARAMS, Scene, behind_a_block, fresh, of_no_cluster, still_open, with_pages, wrapped
@@ -17,7 +17,7 @@ LONG = [(seqno - 1, dict.fromkeys(LONG_KEYS, bytes([seqno]) * 62), [], "commit")
 LATE = [(20, {(0, 2): b"\x19"}, [(2, 17)], "conflict 24"), (25, {(0, 2): b"\x1a"}, [], "commit")]
 # Where the first part begins.
 HEADER = Header.SIZE
-NOTHING = sum_of(b"")
+NOTHING = fingerprint_of(b"")
 
 
 def malformed(at):
@@ -26,7 +26,7 @@ def malformed(at):
 
 # ---- the bytes of a transfer
 
-shown = lru_cache(None)(sum_of)
+shown = lru_cache(None)(fingerprint_of)
 
 
 class Transfer:

@@ -1,9 +1,11 @@
 """The bytes of what a model has (node_model.py): the model knows none, and formats.py knows no model."""
+import hashlib
+
 from lib.formats import (
     PAGE_ROWS, TWO, VERDICTS, change_bytes, entry_bytes, header_bytes, item_bytes, page_bytes, pages_of, record_bytes, snapshot_pieces,
-    superblock_bytes, window_bytes, write_bytes,
+    sum_bytes, superblock_bytes, window_bytes, write_bytes,
 )
-from lib.node_model import CLUSTER, SizeChange
+from lib.node_model import CLUSTER, UNDEFINED, SizeChange, refused
 
 UUID = bytes.fromhex(CLUSTER.replace("-", ""))
 
@@ -64,3 +66,23 @@ def snapshot_of(order, position, pages, of_format=TWO):
 def item_of(order, seqno):
     """The part of a transfer that is this item."""
     return item_bytes(record_of(order, seqno))
+
+
+def rows_of(order, position):
+    """The rows that are there after the first so many items."""
+    rows = {}
+    for m in order.committed(1, position):
+        rows.update(order.items[m - 1].writes if not isinstance(order.items[m - 1], SizeChange) else ())
+    return {key: value for key, value in rows.items() if value is not None}
+
+
+def sum_of(node, position):
+    """What the node answers where it is asked for its sum at the position."""
+    if node.gtid() == UNDEFINED:
+        return refused("11 undefined")
+    if position < node.base():
+        return refused("8 too-old %d" % node.base())
+    if position > node.durable:
+        return refused("9 not-yet %d" % node.durable)
+    rows = rows_of(node.order, position)
+    return ["sum %s:%d rows %d sha256 %s" % (CLUSTER, position, len(rows), hashlib.sha256(sum_bytes(UUID, position, rows)).hexdigest())]

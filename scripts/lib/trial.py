@@ -2,6 +2,7 @@
 import subprocess
 
 from lib.formats import A, ONE, TWO, Superblock, Window, digit, need
+from lib.model_bytes import sum_of
 from lib.node_model import CLUSTER, Item, Node, SizeChange, does
 
 # A window of 4, four cells and one table of 126 rows, and the size of its disk.
@@ -109,12 +110,14 @@ class Life:
         self.trial.say("window", *self.node.window())
 
     def agrees(self, keys=KEYS):
-        """What the node says of itself, its window, and these rows at each position."""
+        """What the node says of itself, its window, and these rows and the sum at each position."""
         self.shows()
         self.shows_window()
         for s in range(self.node.durable + 1):
             for key in keys:
                 self.do("read %d/%d %d" % (*key, s))
+        for s in range(self.node.durable + 2):
+            self.trial.say("sum %d" % s, *sum_of(self.node, s))
 
     def settle(self, keys=KEYS):
         """The node settles by itself."""

@@ -83,14 +83,14 @@ class Refused:
 
     def comes_back(self, front, line, rest):
         """The disk of an opening that was refused is as it was."""
-        found, _ = self.answers(behind(front, ("sum", [])))
-        shown = ("sum", found[-1:])
+        found, _ = self.answers(behind(front, ("fingerprint", [])))
+        shown = ("fingerprint", found[-1:])
         self.has(behind(front, shown, (line[0], [REFUSED]), shown, line, *rest))
 
     def is_faulted(self, front, line, rest):
         """The disk failed in an opening, and is as it was: it opens behind a stop."""
-        found, _ = self.answers(behind(front, ("sum", [])))
-        shown = ("sum", found[-1:])
+        found, _ = self.answers(behind(front, ("fingerprint", [])))
+        shown = ("fingerprint", found[-1:])
         self.has(behind(front, shown, (line[0], [FAULT]), ("log", ["off"]), shown, ("crash drop", ["crashed"]), shown, line, *rest))
 
     def stands_between(self, place, front):

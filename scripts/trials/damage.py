@@ -25,7 +25,7 @@ def refused_pages(program):
     for title, at, text in WAYS:
         for loss in LOSSES:
             trial, life = opened(program, "%s, %s" % (title, loss), 0, at, text)
-            for line in ("read 0/1 3", "read 0/2 3", "read 0/2 3"):
+            for line in ("read 0/1 3", "read 0/2 3", "read 0/2 3", "sum 3", "sum"):
                 trial.say(line, CORRUPT)
             life.do("read 0/70 3")
             life.shows()

@@ -44,9 +44,9 @@ def too_small(program):
     """A device of one byte less than the parameters need is left as it is; one of as many is not."""
     trial = Trial("one byte less")
     trial.say("disk %d 7" % (SMALL_SIZE - 1), "blank")
-    before = last_line(program, trial.text() + "sum\n")
+    before = last_line(program, trial.text() + "fingerprint\n")
     trial.say("params 4 4 126", "refused 14 too-small 103424")
-    trial.say("sum", before)
+    trial.say("fingerprint", before)
     trial.say("disk %d 7" % SMALL_SIZE, "blank")
     trial.say("params 4 4 126", "formatted %s:0" % CLUSTER)
     yield trial
@@ -295,14 +295,14 @@ def a_read_that_meets_a_fault(program):
 def refused_openings(program):
     """A device that fails while it is opened is as it was, and opens once it serves. With an item it makes ten calls: a sync, a gate
     and a body, the other gate, the window, a gate and a body, and three gates."""
-    before = last_line(program, with_item("").text() + "sum\n")
+    before = last_line(program, with_item("").text() + "fingerprint\n")
     for kind in ("once", "from"):
         for call in range(11):
             trial = with_item("%s %d" % (kind, call))
             trial.say("fail %s %d" % (kind, call), "armed")
             if call < 10:
                 trial.say("open", "refused 2 disk-fault")
-                trial.say("sum", before)
+                trial.say("fingerprint", before)
                 trial.say("failures", "failures 1")
                 if kind == "from":
                     trial.say("crash drop", "crashed")
@@ -335,11 +335,11 @@ def refused_openings_of_lives(program):
                 trial = Trial("%s, %s %d" % (title, kind, call))
                 life = play(trial)
                 trial.say("crash drop", "crashed")
-                before, opened = last_line(program, trial.text() + "sum\n"), life.node.stop("drop")
+                before, opened = last_line(program, trial.text() + "fingerprint\n"), life.node.stop("drop")
                 trial.say("fail %s %d" % (kind, call), "armed")
                 if call < calls:
                     trial.say("open", "refused 2 disk-fault")
-                    trial.say("sum", before)
+                    trial.say("fingerprint", before)
                     trial.say("failures", "failures 1")
                     if kind == "from":
                         trial.say("crash drop", "crashed")

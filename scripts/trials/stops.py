@@ -218,7 +218,7 @@ def quiet_nodes_stay(program):
         given.lines += [("fail from %d" % call, []), ("open", []), ("failures", [])]
         if answers(program, given.text())[0][-2].startswith("open "):
             break
-    found = answers(program, "disk %d 0\nparams 4 4 126\nopen\nsum\n" % SMALL_SIZE)[0]
+    found = answers(program, "disk %d 0\nparams 4 4 126\nopen\nfingerprint\n" % SMALL_SIZE)[0]
     trial = Trial("a quiet node")
     trial.new_disk()
     trial.say("fail from %d" % call, "armed")
@@ -227,7 +227,7 @@ def quiet_nodes_stay(program):
     trial.say("settle", "settled")
     opens_at(trial, 0, 0, [])
     trial.say("failures", "failures 0")
-    trial.say("sum", found[-1])
+    trial.say("fingerprint", found[-1])
     yield trial
 
 

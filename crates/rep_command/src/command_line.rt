@@ -5,7 +5,7 @@ use crate::serve_options::Workers;
 use clap::error::ErrorKind;
 use clap::{Arg, ArgAction, ArgMatches, Command, Error};
 use rep_reasons::Fault;
-use rep_types::{Params, Refusal};
+use rep_types::{Params, Refusal, read_number};
 use std::alloc::{AllocError, Global};
 use uuid::Uuid;
 
@@ -96,6 +96,20 @@ const STATE: &Subcommand = &Subcommand {
     ],
 };
 
+/// Prints the sum of a disk.
+const SUM: &Subcommand = &Subcommand {
+    name: "sum",
+    about: "Print the sum of a disk's rows, by which nodes are compared",
+    arguments: &[
+        Argument::Disk("The disk of the node"),
+        Argument::Free(
+            "at",
+            "S",
+            "The position, from that of the base to what is durable, which it is without it",
+        ),
+    ],
+};
+
 /// Writes a transfer for a joiner.
 const DONATE: &Subcommand = &Subcommand {
     name: "donate",
@@ -132,7 +146,7 @@ const SERVE: &Subcommand = &Subcommand {
 };
 
 /// The subcommands, in the order in which the help names them.
-const SUBCOMMANDS: &[&Subcommand] = &[JUDGE, FORMAT, RUN, STATE, DONATE, JOIN, SERVE];
+const SUBCOMMANDS: &[&Subcommand] = &[JUDGE, FORMAT, RUN, STATE, SUM, DONATE, JOIN, SERVE];
 
 /// The subcommand for the parser.
 fn parsed<'a>(alloc: Global, subcommand: &Subcommand) -> Result<Command<'a>, AllocError> {
@@ -193,6 +207,8 @@ pub enum FileTask<'a> {
     /// Print the state of the disk at this path, beside the saved state in a file where there is one, and write what the node
     /// has to a file where one is named.
     State(&'a str, Option<&'a str>, Option<&'a str>),
+    /// Print the sum of the rows on the disk at this path, at this position or at what is durable.
+    Sum(&'a str, Option<u64>),
     /// Write for a joiner what it lacks of the disk at this path: what it has is in the second file, and the third is written.
     Donate(&'a str, &'a str, &'a str),
     /// Bring the node on the disk at this path up to date by the transfer in the file.
@@ -276,6 +292,25 @@ fn state_task<'a>(matches: &ArgMatches<'a>) -> FileTask<'a> {
     FileTask::State(value_of(matches, "disk"), saved, matches.get_str("have"))
 }
 
+/// The task of `sum` with these words behind it.
+fn sum_task<'a, R: Print + Eprint>(
+    rt: &R,
+    alloc: Global,
+    matches: &ArgMatches<'a>,
+) -> Result<Task<'a>, Fault<'a>> {
+    let disk = value_of(matches, "disk");
+    let Some(value) = matches.get_str("at") else {
+        return Ok(Task::OnFiles(FileTask::Sum(disk, None)));
+    };
+    match read_number(value.as_bytes()) {
+        Some(position) => Ok(Task::OnFiles(FileTask::Sum(disk, Some(position)))),
+        None => {
+            let said = ("at", "S", "a number from 0 to 18446744073709551615");
+            printed(rt, &wrong_value(alloc, SUM, said, value)?)
+        }
+    }
+}
+
 /// The task of `donate` with these words behind it.
 fn donate_task<'a>(matches: &ArgMatches<'a>) -> FileTask<'a> {
     let have = value_of(matches, "have");
@@ -316,6 +351,7 @@ fn named_task<'a, R: Print + Eprint>(
         Some(("format", matches)) => format_task(rt, alloc, matches),
         Some(("run", matches)) => Ok(run_task(matches)),
         Some(("state", matches)) => Ok(Task::OnFiles(state_task(matches))),
+        Some(("sum", matches)) => sum_task(rt, alloc, matches),
         Some(("donate", matches)) => Ok(Task::OnFiles(donate_task(matches))),
         Some(("join", matches)) => Ok(Task::OnFiles(join_task(matches))),
         Some(("serve", matches)) => serve_task(rt, alloc, matches),

@@ -4,6 +4,7 @@
 mod disk_file;
 mod name;
 mod new_file;
+mod sum;
 mod target;
 mod waiting;
 
@@ -21,6 +22,7 @@ use rep_types::Refusal;
 use std::fs::{File, Files};
 use std::io::{self, Read};
 use std::rt::Clock;
+pub use sum::print_sum;
 use target::Target;
 
 /// The file at this path, which is there.

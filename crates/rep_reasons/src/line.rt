@@ -232,6 +232,14 @@ impl<'a> Counted<'a> {
         self.end()
     }
 
+    /// Reads what stands behind `sum`.
+    fn sum(&mut self) -> Result<(), Wrong> {
+        if !self.words.is_empty() {
+            self.number(u64::MAX)?;
+        }
+        self.end()
+    }
+
     /// Reads what stands behind `flush`.
     fn flush(&mut self) -> Result<(), Wrong> {
         self.number(u64::MAX)?;
@@ -251,6 +259,9 @@ impl<'a> Counted<'a> {
         }
         if self.skip(b"read") {
             return self.read();
+        }
+        if self.skip(b"sum") {
+            return self.sum();
         }
         self.next()?;
         Err(self.wrong("a word that is no command"))

@@ -14,7 +14,7 @@ use Rattle.rep_record.specs.Words.{is_blank}
 use Rattle.rep_record.specs.Lines.{Unread, ahead, NextLine}
 use Rattle.rep_replica.specs.Replicas.{Replica}
 use Rattle.rep_script.specs.declared.script_line.Command.{Command}
-use Rattle.rep_script.specs.declared.script_line.Command.TheVariants.{Step, State, Limits, Stop}
+use Rattle.rep_script.specs.declared.script_line.Command.TheVariants.{Step, State, Limits, Sum, Stop}
 use Rattle.rep_record.specs.Reading.{order_line}
 use Rattle.rep_script.specs.ScriptLines.{script_line}
 use Rattle.rep_script.specs.Judging.{Reading, reading_of, said_ahead, text_ahead, with_line, content, ReadsParams}
@@ -188,6 +188,7 @@ fails_on_disk g old new number None result refusal is ran = err_is_no_ok {A = Op
 fails_on_disk g old new number (Some (Ok (Step e))) result refusal is ran = (ran.0, subst (λ r. IfErr r (λ e. e ≡ StreamFault)) (sym is) ran.1)
 fails_on_disk g old new number (Some (Ok State)) result refusal is ran = (ran.0, subst (λ r. IfErr r (λ e. e ≡ StreamFault)) (sym is) ran.1)
 fails_on_disk g old new number (Some (Ok Limits)) result refusal is ran = (ran.0, subst (λ r. IfErr r (λ e. e ≡ StreamFault)) (sym is) ran.1)
+fails_on_disk g old new number (Some (Ok (Sum position))) result refusal is ran = (ran.0, subst (λ r. IfErr r (λ e. e ≡ StreamFault)) (sym is) ran.1)
 fails_on_disk g old new number (Some (Ok (Stop loss))) result refusal is ran = err_is_no_ok {A = Option Loss} refusal (Some loss) ran.0
 fails_on_disk g old new number (Some (Err e)) result refusal is ran = (is ∙ ap Err (same_err {A = Option Loss} refusal e ran.0), ran.1)
 
@@ -254,6 +255,7 @@ ran_in_memory g crashes old new None ran = ran.1
 ran_in_memory g crashes old new (Some (Ok (Step e))) ran = ran.0
 ran_in_memory g crashes old new (Some (Ok State)) ran = ran.0
 ran_in_memory g crashes old new (Some (Ok Limits)) ran = ran.0
+ran_in_memory g crashes old new (Some (Ok (Sum position))) ran = ran.0
 ran_in_memory g crashes old new (Some (Ok (Stop loss))) ran = none_is_no_stop loss ran.0
 ran_in_memory g crashes old new (Some (Err e)) ran = ok_is_no_err {A = Option Loss} None e ran.0
 
@@ -263,6 +265,7 @@ failed_in_memory g crashes old new None refusal ran = err_is_no_ok {A = Option L
 failed_in_memory g crashes old new (Some (Ok (Step e))) refusal ran = ran
 failed_in_memory g crashes old new (Some (Ok State)) refusal ran = ran
 failed_in_memory g crashes old new (Some (Ok Limits)) refusal ran = ran
+failed_in_memory g crashes old new (Some (Ok (Sum position))) refusal ran = ran
 failed_in_memory g crashes old new (Some (Ok (Stop loss))) refusal ran = err_is_no_ok {A = Option Loss} refusal (Some loss) ran.0
 failed_in_memory g crashes old new (Some (Err e)) refusal ran = (same_err {A = Option Loss} refusal e ran.0, ran.1)
 
@@ -272,6 +275,7 @@ stop_is_asked g old new None loss ran = none_is_no_stop loss (sym ran.0)
 stop_is_asked g old new (Some (Ok (Step e))) loss ran = some_is_not_none loss ran.1
 stop_is_asked g old new (Some (Ok State)) loss ran = some_is_not_none loss ran.1
 stop_is_asked g old new (Some (Ok Limits)) loss ran = some_is_not_none loss ran.1
+stop_is_asked g old new (Some (Ok (Sum position))) loss ran = some_is_not_none loss ran.1
 stop_is_asked g old new (Some (Ok (Stop l))) loss ran = (same_stop loss l ran.0, ran.1)
 stop_is_asked g old new (Some (Err e)) loss ran = ok_is_no_err {A = Option Loss} (Some loss) e ran.0
 

@@ -11,7 +11,7 @@ use Rattle.rep_disk.specs.declared.memory.Loss.TheVariants.{Keep, Drop, Junk}
 use Rattle.rep_steps.specs.declared.event.Event.TheVariants.{Log, Sync, Check, Flush, Read}
 use Rattle.rep_steps.specs.Events.{delivery}
 use Rattle.rep_script.specs.declared.script_line.Command.{Command}
-use Rattle.rep_script.specs.declared.script_line.Command.TheVariants.{Step, State, Limits, Stop}
+use Rattle.rep_script.specs.declared.script_line.Command.TheVariants.{Step, State, Limits, Sum, Stop}
 
 -- what a stop loses, and the words after it
 unfoldable pub loss_in : List (List ℕ) → Option (Loss × List (List ℕ))
@@ -29,6 +29,10 @@ flush_in words = next (number_in (2 ^ 64)) words >>= λ x. Some (Step (Flush x.0
 unfoldable pub read_in : List (List ℕ) → Option (Command × List (List ℕ))
 read_in words = next key_in words >>= λ x. next (number_in (2 ^ 64)) x.1 >>= λ y. Some (Step (Read x.0 y.0), y.1)
 
+-- a sum at a position, or where no word is left at what is durable, and the words after it
+unfoldable pub sum_in : List (List ℕ) → Option (Command × List (List ℕ))
+sum_in words = if length words == 0 then Some (Sum None, words) else next (number_in (2 ^ 64)) words >>= λ x. Some (Sum (Some x.0), x.1)
+
 -- a stop with its loss, and the words after it
 unfoldable pub stop_in : List (List ℕ) → Option (Command × List (List ℕ))
 stop_in words = loss_in words >>= λ x. Some (Stop x.0, x.1)
@@ -43,6 +47,7 @@ plain_in words =
     else if is_next (codes "limits") words then Some (Limits, drop 1 words)
     else if is_next (codes "flush") words then flush_in (drop 1 words)
     else if is_next (codes "read") words then read_in (drop 1 words)
+    else if is_next (codes "sum") words then sum_in (drop 1 words)
     else if is_next (codes "stop") words then stop_in (drop 1 words)
     else None
 
@@ -61,7 +66,7 @@ delivery_of number None = Err (Malformed number)
 delivery_of number (Some x) = delivered x.0 (order_outcome number (item_in x.1))
 
 -- What comes of a script's line with this number: `deliver seqno tail`, `deliver seqno window size [id source:trx]`, `log`, `sync`, `check`,
--- `flush p`, `read key s`, `state`, `limits`, `stop keep`, `stop drop` or `stop junk`.
+-- `flush p`, `read key s`, `sum [s]`, `state`, `limits`, `stop keep`, `stop drop` or `stop junk`.
 abbrev pub script_line : ℕ → List ℕ → Result Command Refusal
 script_line number line =
     if is_next (codes "deliver") (words line) then delivery_of number (next (number_in (2 ^ 64)) (drop 1 (words line)))

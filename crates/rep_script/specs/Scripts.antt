@@ -18,8 +18,9 @@ use Rattle.rep_replica.specs.Replicas.{Replica}
 use Rattle.rep_replica.specs.Holding.{IsStep}
 use Rattle.rep_replica.specs.Opening.{Begins as BeginsOn, Opens}
 use Rattle.rep_script.specs.declared.script_line.Command.{Command}
-use Rattle.rep_script.specs.declared.script_line.Command.TheVariants.{Step, State, Limits, Stop}
+use Rattle.rep_script.specs.declared.script_line.Command.TheVariants.{Step, State, Limits, Sum, Stop}
 use Rattle.rep_script.specs.ScriptLines.{script_line}
+use Rattle.rep_script.specs.Summing.{TakesSum}
 use Rattle.rep_script.specs.Judging.{Reading, said_by, text_of}
 
 -- ---- what a script asks for
@@ -33,6 +34,7 @@ abbrev pub unless_stop : ℕ → Result Command Refusal → Result Command Refus
 unless_stop number (Ok (Step e)) = Ok (Step e)
 unless_stop number (Ok State) = Ok State
 unless_stop number (Ok Limits) = Ok Limits
+unless_stop number (Ok (Sum position)) = Ok (Sum position)
 unless_stop number (Ok (Stop loss)) = Err (Malformed number)
 unless_stop number (Err refusal) = Err refusal
 
@@ -86,11 +88,12 @@ pub record Stops {D : Type 0} (g : Ghosts D) (crashes : Loss → D → D → Typ
 -- ---- what running a script does
 
 -- What a command does to a replica on a disk that does not crash at a line's word: it makes this step, whatever it answers, or its state or its
--- window's limits are looked at.
+-- window's limits are looked at, or a sum is taken.
 abbrev pub Does : {D : Type 0} → Ghosts D → Replica D → Command → Replica D → Type 0
 Does g old (Step e) new = (a : Answer) × IsStep g old e a new
 Does g old State new = new ≡ old
 Does g old Limits new = new ≡ old
+Does g old (Sum position) new = TakesSum g old position new
 Does g old (Stop loss) new = ⊥
 
 -- The same on a disk that a stop makes crash, and opens again.
@@ -98,6 +101,7 @@ abbrev pub DoesOrStops : {D : Type 0} → Ghosts D → (Loss → D → D → Typ
 DoesOrStops g crashes old (Step e) new = (a : Answer) × IsStep g old e a new
 DoesOrStops g crashes old State new = new ≡ old
 DoesOrStops g crashes old Limits new = new ≡ old
+DoesOrStops g crashes old (Sum position) new = TakesSum g old position new
 DoesOrStops g crashes old (Stop loss) new = Stops g crashes loss old (Ok new)
 
 -- These commands were done one after another, each once.
@@ -162,6 +166,7 @@ abbrev pub RunsCommand : {D : Type 0} → Ghosts D → Replica D → Command →
 RunsCommand g old (Step e) result new = Does g old (Step e) new × MatchResult result (λ asked. asked ≡ None) (λ refusal. refusal ≡ StreamFault)
 RunsCommand g old State result new = Does g old State new × MatchResult result (λ asked. asked ≡ None) (λ refusal. refusal ≡ StreamFault)
 RunsCommand g old Limits result new = Does g old Limits new × MatchResult result (λ asked. asked ≡ None) (λ refusal. refusal ≡ StreamFault)
+RunsCommand g old (Sum position) result new = Does g old (Sum position) new × MatchResult result (λ asked. asked ≡ None) (λ refusal. refusal ≡ StreamFault)
 RunsCommand g old (Stop loss) result new = (result ≡ Ok (Some loss)) × (new ≡ old)
 
 -- what a line does to a replica, by what it says, and what comes of it

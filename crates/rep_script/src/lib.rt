@@ -15,6 +15,7 @@ mod saved_file;
 mod script;
 mod script_line;
 mod state;
+mod sum;
 
 pub use answers::{write_answer, write_line, write_open, write_refused, write_state};
 pub use catchup::{donated_text, join_text, write_have};
@@ -27,3 +28,4 @@ pub use saved_file::read_saved;
 pub use script::{on_new_disk, opened, run_on_disk, run_script};
 pub use script_line::{Command, next_number, read_command, read_loss};
 pub use state::state_text;
+pub use sum::{answer_sum, sum_text, write_sum};

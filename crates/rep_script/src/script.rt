@@ -14,6 +14,7 @@ use crate::exchange::{Waiting, next_line, send};
 use crate::judge::read_params;
 use crate::limits::answer_limits;
 use crate::script_line::{Command, read_command};
+use crate::sum::answer_sum;
 use arrayvec::ArrayVec;
 use rep_disk::{Disk, Loss, MemDisk};
 use rep_layout::need;
@@ -101,6 +102,7 @@ fn run_command<D: Disk, W: Sink>(
             Err(refusal) => write_refused(writer, refusal)?,
         },
         Command::Limits => answer_limits(alloc, replica, writer)?,
+        Command::Sum(position) => answer_sum(replica, position, writer)?,
         Command::Stop(loss) => return Ok(Some(loss)),
     }
     Ok(None)

@@ -3,7 +3,7 @@
 ghost use Rattle.std.specs.Prelude.{◌≡◌, ◌≢◌, ◌^◌, IfErr};
 ghost use Rattle.rep_record.specs.Reading.{number_in, next};
 ghost use Rattle.rep_record.specs.Drafts.{Gives};
-ghost use Rattle.rep_script.specs.ScriptLines.{loss_in, flush_in, read_in, stop_in, plain_in, whole_in, delivery_of, script_line};
+ghost use Rattle.rep_script.specs.ScriptLines.{loss_in, flush_in, read_in, sum_in, stop_in, plain_in, whole_in, delivery_of, script_line};
 
 use rep_disk::Loss;
 use rep_record::{Words, read_key, read_stated};
@@ -19,6 +19,8 @@ pub enum Command {
     State,
     /// The line of the limits of the replica's window.
     Limits,
+    /// The line of the sum at this position, or at what is durable.
+    Sum(Option<u64>),
     /// A stop, with this loss, and the opening of what is left.
     Stop(Loss),
 }
@@ -65,6 +67,18 @@ fn read_read(words: &mut Words) -> Option<Command>
     Some(Command::Step(Event::Read(key, after)))
 }
 
+/// A sum, at the position that the next word is, or where no word is left at what is durable.
+#[tactic(auto, unfolding(crate::specs::ScriptLines::sum_in))]
+fn read_sum(words: &mut Words) -> Option<Command>
+    ensures { Gives (λ command. command) result words.new (sum_in words.old) }
+{
+    if words.is_empty() {
+        return Some(Command::Sum(None));
+    }
+    let position = next_number(words)?;
+    Some(Command::Sum(Some(position)))
+}
+
 /// A stop.
 #[tactic(auto, unfolding(crate::specs::ScriptLines::stop_in))]
 fn read_stop(words: &mut Words) -> Option<Command>
@@ -93,6 +107,8 @@ fn read_plain(words: &mut Words) -> Option<Command>
         read_flush(words)
     } else if words.skip(b"read") {
         read_read(words)
+    } else if words.skip(b"sum") {
+        read_sum(words)
     } else if words.skip(b"stop") {
         read_stop(words)
     } else {
@@ -125,8 +141,8 @@ fn read_delivery(mut words: Words, number: u64) -> Result<Command, Refusal>
 }
 
 /// What the line with this number asks for: `deliver seqno tail`, `deliver seqno window size
-/// [id source:trx]`, `log`, `sync`, `check`, `flush p`, `read key s`, `state`, `limits`, `stop keep`,
-/// `stop drop` or `stop junk`.
+/// [id source:trx]`, `log`, `sync`, `check`, `flush p`, `read key s`, `sum [s]`, `state`, `limits`,
+/// `stop keep`, `stop drop` or `stop junk`.
 ///
 /// Refuses with `Malformed`, `at` being the line's number, a line of no such form; and the item of a
 /// delivery as `read_stated` does, whatever its seqno: a size outside 1 to 256 with `BadParams`.

@@ -7,7 +7,7 @@ use crate::donor::{Donor, lend, let_go};
 use crate::join::joined;
 use crate::node::{Bench, Left, kept, opened};
 use crate::order::{Change, DiskOrder, NodeOrder, Order, Sight, read_order};
-use crate::shown::{write_bytes, write_sum};
+use crate::shown::{write_bytes, write_fingerprint};
 use arrayvec::ArrayVec;
 use rep_disk::Disk;
 use rep_record::{MAX_LINE, TextReader, is_blank};
@@ -101,7 +101,7 @@ fn change<W: Sink>(
 fn show<W: Sink>(device: &Device, sight: Sight, writer: &mut W) -> Result<(), Refusal> {
     match sight {
         Sight::Bytes(at, count) => write_bytes(writer, device, at as usize, count as usize),
-        Sight::Sum => write_sum(writer, bytes(device)),
+        Sight::Fingerprint => write_fingerprint(writer, bytes(device)),
         Sight::Failures => write_line(writer, format_args!("failures {}", failures(device))),
     }
 }

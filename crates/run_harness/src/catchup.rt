@@ -3,7 +3,7 @@
 use crate::donor::Donor;
 use crate::node::{Bench, Left};
 use crate::order::Harm;
-use crate::shown::write_sum;
+use crate::shown::write_fingerprint;
 use rep_catchup::{donate, have, join};
 use rep_disk::Disk;
 use rep_replica::Replica;
@@ -30,7 +30,7 @@ pub(crate) fn written_for<D: Disk, E: Disk, W: Sink>(
     donor.transfer.bytes.clear();
     let donated = donate(&mut donor.node, &have(node), &mut donor.transfer);
     write_donated(writer, donated)?;
-    write_sum(writer, &donor.transfer.bytes)
+    write_fingerprint(writer, &donor.transfer.bytes)
 }
 
 /// Lets the transfer come to harm, and writes how many bytes it has then.

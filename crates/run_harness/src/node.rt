@@ -6,7 +6,8 @@ use rep_disk::Disk;
 use rep_record::write_verdict;
 use rep_replica::{Installation, Replica};
 use rep_script::{
-    Command, write_answer, write_limits, write_line, write_open, write_refused, write_state,
+    Command, answer_sum, write_answer, write_limits, write_line, write_open, write_refused,
+    write_state,
 };
 use rep_steps::{Answer, Event};
 use rep_streams::Sink;
@@ -105,6 +106,7 @@ fn at_node<D: Disk, W: Sink>(
     match order {
         NodeOrder::Script(Command::Step(event)) => step(node, event, writer),
         NodeOrder::Script(Command::Limits) => show_limits(alloc, node, writer),
+        NodeOrder::Script(Command::Sum(position)) => answer_sum(node, position, writer),
         NodeOrder::Script(_) => show_state(alloc, node, false, writer),
         NodeOrder::Settle => settle(node, writer),
         NodeOrder::Window => show_state(alloc, node, true, writer),

@@ -34,8 +34,8 @@ pub(crate) enum Change {
 pub(crate) enum Sight {
     /// So many bytes from this place on.
     Bytes(u64, u64),
-    /// A sum over all bytes.
-    Sum,
+    /// A fingerprint of all bytes.
+    Fingerprint,
     /// How often it failed.
     Failures,
 }
@@ -196,8 +196,8 @@ fn read_sight(words: &mut Words) -> Option<Sight> {
     if words.skip(b"bytes") {
         let at = next_number(words)?;
         Some(Sight::Bytes(at, next_number(words)?))
-    } else if words.skip(b"sum") {
-        Some(Sight::Sum)
+    } else if words.skip(b"fingerprint") {
+        Some(Sight::Fingerprint)
     } else if words.skip(b"failures") {
         Some(Sight::Failures)
     } else {

@@ -85,7 +85,7 @@ pub(crate) fn write_bytes<W: Sink>(
 }
 
 /// A sum over the bytes, which differs where any byte does that stands alone (FNV-1a, 64 bits).
-fn sum_of(bytes: &[u8]) -> u64 {
+fn fingerprint_of(bytes: &[u8]) -> u64 {
     let mut sum = 0xcbf2_9ce4_8422_2325_u64;
     for byte in bytes {
         sum = (sum ^ u64::from(*byte)).wrapping_mul(0x100_0000_01b3);
@@ -93,8 +93,8 @@ fn sum_of(bytes: &[u8]) -> u64 {
     sum
 }
 
-/// Writes how many bytes there are, and a sum over them.
-pub(crate) fn write_sum<W: Sink>(writer: &mut W, bytes: &[u8]) -> Result<(), Refusal> {
-    let (size, sum) = (bytes.len(), sum_of(bytes));
-    write_line(writer, format_args!("sum {size} {sum}"))
+/// Writes how many bytes there are, and their fingerprint.
+pub(crate) fn write_fingerprint<W: Sink>(writer: &mut W, bytes: &[u8]) -> Result<(), Refusal> {
+    let (size, sum) = (bytes.len(), fingerprint_of(bytes));
+    write_line(writer, format_args!("fingerprint {size} {sum}"))
 }

@@ -1,0 +1,28 @@
+//! The sum of a disk.
+
+use crate::disk_file::{disk_fault, opened_to_read};
+use rep_reasons::{Fault, Noted, OUTPUT};
+use rep_script::sum_text;
+use rep_streams::WriterSink;
+use rep_types::Refusal;
+use std::fs::{File, Files};
+use std::io;
+use std::rt::Clock;
+
+/// Prints the sum of the rows on the disk at this path, which is opened to read alone: at this position, or at what is durable.
+///
+/// Refuses the disk with `DiskFault` where it cannot be opened or another program changes it for two seconds, and else as `Replica::open`
+/// does; then as `sum_at` does; and with `StreamFault` where the line cannot be written.
+pub fn print_sum<'a, R: Files<File = File> + Print + AllocGlobal + Clock>(
+    rt: &R,
+    path: &'a str,
+    position: Option<u64>,
+) -> Result<(), Fault<'a>> {
+    let mut replica = opened_to_read(rt, path)?;
+    let mut output = Noted::new(io::writer(rt));
+    match sum_text(&mut replica, position, &mut WriterSink::new(&mut output)) {
+        Ok(()) => Ok(()),
+        Err(Refusal::StreamFault) => Err(output.fault().of(OUTPUT)),
+        Err(refusal) => Err(disk_fault(replica.into_disk(), refusal).of(path)),
+    }
+}

@@ -1,0 +1,5 @@
+pub mod Listing
+pub mod Reading
+pub mod Showing
+pub mod Standing
+pub mod Telling
