@@ -1,4 +1,4 @@
-# `make run` is the first thing to try, `make build` makes the proved program, and `make test` is all that CI runs.
+# `make run` is the first thing to try, `make build` makes the proved program, `make install` puts it where a shell finds it, and `make test` is all that CI runs.
 
 # The program's crates, floor by floor from the lowest (crates.txt has all crates): each stands behind those that it stands on.
 # values
@@ -20,7 +20,7 @@ TIMED := uses_snap run_trials run_timed
 COMPARE := crates/run_trials/out/run_trials
 PARTS := crates/run_timed/out/run_timed
 
-.PHONY: run build test check edits gate-time bench soak toolchain
+.PHONY: run build install test check edits gate-time bench soak toolchain
 
 # Judges the sample order within a minute: what judges is compiled, with checks at run time, and not proved yet.
 run: toolchain
@@ -30,6 +30,13 @@ run: toolchain
 build: toolchain
 	@scripts/build $(CRATES)
 	@$(PROGRAM) judge < examples/first-order.txt
+
+# Puts the proved program, and its manual page, under PREFIX.
+PREFIX ?= /usr/local
+install: build
+	@install -D -m 755 $(PROGRAM) "$(DESTDIR)$(PREFIX)/bin/replicad"
+	@mkdir -p "$(DESTDIR)$(PREFIX)/share/man/man1"
+	@scripts/manual docs/cli.md > "$(DESTDIR)$(PREFIX)/share/man/man1/replicad.1"
 
 # All that CI runs: the gate, wrong bodies beside it, and then the cases of the built program, lives of a replica, and each refused growth in turn.
 test: toolchain
