@@ -1,0 +1,6 @@
+pub mod Digits
+pub mod Committing
+pub mod Deliveries
+pub mod Feeds
+pub mod Groups
+pub mod Noting

@@ -1,0 +1,4 @@
+pub mod Receipts
+pub mod Committing
+pub mod Taking
+pub mod Following

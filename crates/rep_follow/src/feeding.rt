@@ -1,0 +1,56 @@
+//! The items of an order are taken from the lines that came.
+
+ghost use Rattle.std.specs.Prelude.{◌≡◌, false};
+ghost use Rattle.rep_streams.specs.Streams.{Notes};
+ghost use Rattle.rep_requests.specs.Requests.{requested};
+ghost use Rattle.rep_follow.specs.Taking.{item_at, TakesLines};
+
+use crate::taking::take;
+use arrayvec::ArrayVec;
+use rep_disk::Disk;
+use rep_lines::{Feed, MAX_KEPT};
+use rep_replica::{Replica, runs_are_joined};
+use rep_requests::{Request, read_request};
+use rep_streams::Sink;
+use rep_types::{Item, Refusal};
+
+/// The item that the line is, where it has this seqno of the order.
+fn item_of(line: &[u8], seqno: u64) -> Option<Item>
+    ensures { result ≡ item_at seqno (requested 0 line.now) }
+{
+    match read_request(line, 0) {
+        Request::Published(found, item) if found == seqno => Some(item),
+        _ => None,
+    }
+}
+
+/// Takes the items of the lines that came whole, as long as each is the next one of the order, whose seqno is in `next`. Answers `false` where
+/// no whole line is left, and `true` where the line that was handed out last is another one, which is in `line`. Nobody is asked for more.
+///
+/// Refuses as `take` does, with the item that was handed out last not taken; and with `Exhausted` where no number of 64 bits is left.
+pub fn take_lines<D: Disk, W: Sink>(
+    replica: &mut Replica<D>,
+    feed: &mut Feed,
+    next: &mut u64,
+    line: &mut ArrayVec<u8, MAX_KEPT>,
+    writer: &mut W,
+) -> Result<bool, Refusal>
+    ensures takes { TakesLines D.Disk next.old replica.old replica.new feed.old feed.new line.new.items (W.contents writer.old) (W.contents writer.new) result next.new }
+    ensures notes { Notes (W.failed writer.old) (W.failed writer.new) result }
+{
+    runs_are_joined::<D>();
+    'whole: while feed.next_whole(line) {
+        let seqno = *next;
+        let Some(item) = item_of(line, seqno) else {
+            return Ok(true);
+        };
+        let Some(after) = seqno.checked_add(1) else {
+            return Err(Refusal::Exhausted);
+        };
+        if let Err(refusal) = take(replica, writer, seqno, item) {
+            return Err(refusal);
+        }
+        *next = after;
+    }
+    Ok(false)
+}
