@@ -70,6 +70,6 @@ pub record TellsAll {D : Type 0} (g : Ghosts D) (old new : Replica D) (before af
   pub all : OnOk result ((facts_of g new).ahead ≡ [])
 
 -- How many pages of the checkpoint under way go with the next block, where so many cells are free and so many pages are left: so many that it
--- ends before the log is full, and all with fewer than 8 cells free.
+-- ends before the log is full, and not one more; and all with fewer than 8 cells free.
 abbrev pub IsEnough : ℕ → ℕ → ℕ → Type 0
-IsEnough free left pages = (pages ≤ left) × ((free < 8 → pages ≡ left) × (8 ≤ free → left ≤ pages * (free - 7)))
+IsEnough free left pages = (pages ≤ left) × ((free < 8 → pages ≡ left) × (8 ≤ free → (left ≤ pages * (free - 7)) × (pages * (free - 7) < left + (free - 7))))
