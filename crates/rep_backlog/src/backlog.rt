@@ -90,7 +90,8 @@ impl Backlog {
             if !builder.push(first) {
                 break;
             }
-            self.items.pop_front();
+            // Let go where it lies: it is not moved out.
+            self.items.truncate_front(self.items.len() - 1);
             moved += 1;
         }
         moved

@@ -13,6 +13,7 @@ use Rattle.rep_types.specs.declared.key.Key.{Key}
 use Rattle.rep_types.specs.declared.limits.TheConstants.{ROWS_PER_PAGE}
 use Rattle.rep_types.specs.Settings.{IsRow}
 use Rattle.rep_types.specs.Order.{State}
+use Rattle.rep_types.proofs.Lists.{all_push}
 use Rattle.rep_layout.specs.declared.page_state.PageState.{PageState}
 use Rattle.rep_layout.specs.declared.page_state.PageState.TheVariants.{Nowhere, In}
 use Rattle.rep_layout.specs.declared.place.Slot.{Slot}
@@ -37,7 +38,7 @@ use Rattle.rep_transfer.specs.Writing.{Wrote}
 use Rattle.rep_catchup.specs.Snapshots.{with_pages, number_of, IsPageOf}
 use Rattle.rep_catchup.specs.Donating.{ReadsAlone, is_in_slot, held_below, rows_below, as_seen, ArePages, ArePagesBelow, IsHeldPage, IsPageFor, IsPageThere, IsPageOfNode, KnowsPage, KnowsPages, page_part, WroteFront, Writes}
 use Rattle.rep_catchup.proofs.DonateReads.{same_of, seen_before}
-use Rattle.rep_catchup.proofs.DonateWrites.{all_push, all_same, front_before, front_behind, front_none, front_of_wrote, writes_mapped}
+use Rattle.rep_catchup.proofs.DonateWrites.{all_same, front_before, front_behind, front_none, front_of_wrote, writes_mapped}
 
 -- ---- which pages the base has in a slot
 

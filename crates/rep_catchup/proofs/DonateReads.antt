@@ -4,6 +4,7 @@ use Rattle.std.specs.Prelude.{◌⊎◌, ◌||◌, is_some, IsOk, IsErr, OnOk}
 use Rattle.rep_types.specs.declared.refusal.Refusal.{Refusal}
 use Rattle.rep_types.specs.declared.refusal.Refusal.TheVariants.{StreamFault, DiskFault, Corrupt}
 use Rattle.rep_types.specs.declared.refusal.Part.{Part}
+use Rattle.rep_types.proofs.Choices.{neither_some}
 use Rattle.rep_disk.specs.declared.disk.Disk.{Ghosts}
 use Rattle.rep_disk.specs.History.{History, seen}
 use Rattle.rep_disk.specs.Calls.{Rises}
@@ -23,15 +24,6 @@ use Rattle.rep_transfer.specs.Writing.{Wrote}
 use Rattle.rep_catchup.specs.Donating.{EndsEarly, ReadsAlone, IsRunning, Leaves, as_seen, IsBadPart}
 
 -- ---- whether it is stopped
-
-pub not_inside : {T : Type 0} (inside : Bool) (halted : Option T) → (inside || is_some halted) ≡ false → inside ≡ false
-not_inside true halted off = absurd (let never : true ≡ false = off in cc)
-not_inside false halted off = refl
-
-pub not_halted : {T : Type 0} (inside : Bool) (halted : Option T) → (inside || is_some halted) ≡ false → halted ≡ None
-not_halted true halted off = absurd (let never : true ≡ false = off in cc)
-not_halted false None off = refl
-not_halted false (Some x) off = absurd (let never : true ≡ false = off in cc)
 
 neither : {T : Type 0} (inside : Bool) (halted : Option T) → inside ≡ false → halted ≡ None → (inside || is_some halted) ≡ false
 neither true halted off none = absurd (let never : true ≡ false = off in cc)
@@ -115,7 +107,7 @@ module _ {D : Type 0} (g : Ghosts D) where
 
   -- the device was asked
   runs_on : {T : Type 0} (old new : Replica D) (phase : Phase) (result : Result T Refusal) → new.stopped ≡ old.stopped → IsRunning old → new.engine.halted ≡ halted_by phase result → OnOk result (IsRunning new)
-  runs_on old new phase (Ok x) same runs none = neither new.stopped new.engine.halted (same ∙ not_inside old.stopped old.engine.halted runs) none
+  runs_on old new phase (Ok x) same runs none = neither new.stopped new.engine.halted (same ∙ (neither_some old.stopped old.engine.halted runs).0) none
   runs_on old new phase (Err e) same runs none = tt
 
   module _ {T : Type 0} (part : Part) where
@@ -166,7 +158,7 @@ module _ {D : Type 0} (g : Ghosts D) where
       ap is_some ((asked.running runs).0 ∙ ap (halted_by old.engine.log.phase) is),
     );
     no_fault = λ other. asked.call.no_cause (told part result (asked.running runs).1 other);
-    halts = λ other. (asked.running runs).0 ∙ not_halted_by part old.engine.log.phase result (asked.running runs).1 other ∙ sym (not_halted old.stopped old.engine.halted runs);
+    halts = λ other. (asked.running runs).0 ∙ not_halted_by part old.engine.log.phase result (asked.running runs).1 other ∙ sym ((neither_some old.stopped old.engine.halted runs).1);
     bad = λ h other. bad_of part (IsBadPart (as_seen g old.engine) old.engine.layout old.engine.checkpoint.base old.engine.log) other result (asked.running runs).1 (bad h);
     notes = record { fault = λ is. absurd (no_stream part result (asked.running runs).1 is); fine = λ other. refl };
   }

@@ -17,6 +17,8 @@ use Rattle.rep_types.specs.declared.verdict.Verdict.TheVariants.{Commit, Conflic
 use Rattle.rep_types.specs.declared.item.Item.{Item}
 use Rattle.rep_types.specs.declared.item.Item.TheVariants.{WriteSet, SetWindow}
 use Rattle.rep_types.specs.declared.limits.TheConstants.{MAX_SEQNO}
+use Rattle.rep_types.proofs.Choices.{neither_some}
+use Rattle.rep_types.proofs.Lists.{empty_by_length, all_append, all_filter, all_push}
 use Rattle.rep_record.specs.Records.{IsRecord, IsVerdictAt, is_verdict_at, Suits, suits, is_placed}
 use Rattle.rep_forms.specs.FormLaws.{length_number}
 use Rattle.rep_record.specs.declared.limits.TheConstants.{MAX_BLOCK}
@@ -37,8 +39,8 @@ use Rattle.rep_replica.specs.Holding.{Holds}
 use Rattle.rep_transfer.specs.Writing.{Wrote}
 use Rattle.rep_transfer.specs.Transfers.{record_part}
 use Rattle.rep_catchup.specs.Donating.{ReadsAlone, IsRunning, IsBadPart, AreAllBlocks, AreBlocksThere, IsBlockThere, IsSomeBlock, KnowsBlocks, WroteFront, Writes, above, as_seen, durable_items, tail_part}
-use Rattle.rep_catchup.proofs.DonateReads.{not_halted, same_of, seen_before}
-use Rattle.rep_catchup.proofs.DonateWrites.{all_both, all_filter, all_push, all_same, front_all, front_before, front_behind, front_none, front_of_wrote}
+use Rattle.rep_catchup.proofs.DonateReads.{same_of, seen_before}
+use Rattle.rep_catchup.proofs.DonateWrites.{all_same, front_all, front_before, front_behind, front_none, front_of_wrote}
 
 -- ---- blocks, one after another
 
@@ -71,19 +73,15 @@ is_placed_record j is =
 
 -- ---- of a replica
 
-no_more : {A : Type 0} (xs : List A) → length xs ≡ 0 → xs ≡ []
-no_more [] none = refl
-no_more (x ∷ xs) none = absurd (omega (arith, none))
-
 module _ {D : Type 0} (g : Ghosts D) (n : Node) where
   -- where there is no block, nothing is durable behind the base
   pub no_block_no_item : (r : Replica D) → Holds g n r → IsRunning r → r.engine.log.next - r.engine.log.start ≡ 0 → durable_items n ≡ []
   no_block_no_item r holds runs none =
-      let there = holds.engine.runs (not_halted r.stopped r.engine.halted runs) in
+      let there = holds.engine.runs ((neither_some r.stopped r.engine.halted runs).1) in
       let size : length (take holds.taken n.items) ≡ holds.taken = length-take-le holds.taken n.items holds.within in
       let near : n.facts.durable - n.facts.base ≤ holds.taken = omega (arith, holds.engine.node.enough, size) in
       let empty : length there.blocks ≡ 0 = omega (arith, there.stands.log_is.next, none) in
-      sym (sym (ap records_of (no_more there.blocks empty)) ∙ there.stands.durable ∙ take-take (n.facts.durable - n.facts.base) holds.taken n.items near)
+      sym (sym (ap records_of (empty_by_length there.blocks empty)) ∙ there.stands.durable ∙ take-take (n.facts.durable - n.facts.base) holds.taken n.items near)
 
   -- the block is one of the replica's at the beginning
   pub block_at_first : (a b : Replica D) (index : ℕ) (records : List Judged) → ReadsAlone g a b → g.honest a.engine.disk
@@ -142,7 +140,7 @@ blocks_cut log position blocks a b are within cut =
     let more = replicate m (one_record ∷ []) in (
       blocks ++ more,
       (
-        all_both IsSomeBlock blocks more are (all_same IsSomeBlock (one_record ∷ []) m some_block),
+        all_append IsSomeBlock blocks more are (all_same IsSomeBlock (one_record ∷ []) m some_block),
         length-append blocks more ∙ ap (λ (k : ℕ). length blocks + k) (length-replicate m (one_record ∷ [])) ∙ omega (arith, within),
       ),
       subst (WroteFront a b) (sym (tail_join position blocks more)) (front_before a b (tail_part position blocks) (tail_part position more) cut),
@@ -154,7 +152,7 @@ blocks_none log position a = blocks_cut log position [] a a tt (omega arith) (fr
 
 some_records : (blocks : List (List Judged)) → AllByRecursion IsSomeBlock blocks → AllByRecursion IsRecord (records_of blocks)
 some_records [] are = tt
-some_records (records ∷ blocks) are = all_both IsRecord records (records_of blocks) are.0.1.are_records (some_records blocks are.1)
+some_records (records ∷ blocks) are = all_append IsRecord records (records_of blocks) are.0.1.are_records (some_records blocks are.1)
 
 pub records_above : (log : Log) (position : ℕ) (blocks : List (List Judged)) → AreAllBlocks log blocks → AllByRecursion IsRecord (above position (records_of blocks))
 records_above log position blocks are = all_filter IsRecord (λ (j : Judged). nat_lt position j.seqno) (records_of blocks) (some_records blocks are.0)
@@ -186,7 +184,7 @@ pub record WroteBlocks {D : Type 0} (g : Ghosts D) (r : Replica D) (position ind
   pub written : Appends old new (tail_part position blocks)
 
 first_ones : (index : ℕ) (blocks all : List (List Judged)) → length blocks ≡ index → (0 < index → blocks ≡ take index all) → blocks ≡ take index all
-first_ones zero blocks all size front = no_more blocks size
+first_ones zero blocks all size front = empty_by_length blocks size
 first_ones (suc k) blocks all size front = front (omega arith)
 
 module _ {D : Type 0} (g : Ghosts D) (r : Replica D) (position : ℕ) where
@@ -219,7 +217,7 @@ module _ {D : Type 0} (g : Ghosts D) (r : Replica D) (position : ℕ) where
   }
 
   all_of_node : (n : Node) (index : ℕ) (blocks : List (List Judged)) → length blocks ≡ index → r.engine.log.next - r.engine.log.start ≤ index → (r.engine.log.next - r.engine.log.start ≡ 0 → durable_items n ≡ []) → (0 < index → AreFirstBlocks g n r.engine index blocks) → records_of blocks ≡ durable_items n
-  all_of_node n zero blocks size past none first = ap records_of (no_more blocks size) ∙ sym (none (omega (arith, past)))
+  all_of_node n zero blocks size past none first = ap records_of (empty_by_length blocks size) ∙ sym (none (omega (arith, past)))
   all_of_node n (suc k) blocks size past none first =
       let here = first (omega arith) in
       ap records_of (here.front ∙ take_all (suc k) here.all (omega (arith, past, here.tail.count))) ∙ here.tail.items

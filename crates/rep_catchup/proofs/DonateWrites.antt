@@ -1,6 +1,6 @@
 -- What is written of a donation, one part after another.
-use Rattle.std.proofs.Common.{◌≡◌, ℕ, zero, suc, ◌+◌, ◌≤◌, ◌<◌, List, [], ◌∷◌, ◌++◌, length, take, Option, Result, Ok, Err, inl, inr, refl, sym, ap, subst, ◌∙◌, append_assoc, arith, length-append}
-use Rattle.std.specs.Prelude.{OnOk, OnErr, Bool, true, false, filter, replicate}
+use Rattle.std.proofs.Common.{◌≡◌, ℕ, zero, suc, ◌+◌, ◌≤◌, ◌<◌, List, [], ◌∷◌, ◌++◌, length, take, Option, Result, Ok, Err, inl, inr, sym, ap, subst, ◌∙◌, append_assoc, arith, length-append}
+use Rattle.std.specs.Prelude.{OnOk, OnErr, replicate}
 use Rattle.std.specs.List.{AllByRecursion}
 use Rattle.std.specs.Io.KnownBytes.{Appends}
 use Rattle.std.proofs.KnownBytes.{Appends-nil, Appends-trans}
@@ -8,6 +8,7 @@ use Rattle.std.proofs.Math.Seq.{take-append-add, take-append-le}
 use Rattle.std.proofs.lemmas.List.{take_all}
 use Rattle.std.proofs.lemmas.Bool.{cases_lt}
 use Rattle.rep_types.specs.declared.refusal.Refusal.{Refusal}
+use Rattle.rep_types.proofs.Lists.{all_push, all_at}
 use Rattle.rep_transfer.specs.Writing.{Wrote}
 use Rattle.rep_catchup.specs.Donating.{WroteFront, Writes}
 
@@ -91,26 +92,6 @@ pub record Writing {A : Type 0} (P : A → Type 0) (spell : List A → List ℕ)
   pub fit : AllByRecursion P gone
   pub written : Appends old new (spell gone)
 
-pub all_push : {A : Type 0} (P : A → Type 0) (xs : List A) (x : A) → AllByRecursion P xs → P x → AllByRecursion P (xs ++ x ∷ [])
-all_push P [] x all here = (here, tt)
-all_push P (y ∷ xs) x all here = (all.0, all_push P xs x all.1 here)
-
-pub in_middle : {A : Type 0} (P : A → Type 0) (xs : List A) (x : A) (ys : List A) → AllByRecursion P (xs ++ x ∷ ys) → P x
-in_middle P [] x ys all = all.0
-in_middle P (y ∷ xs) x ys all = in_middle P xs x ys all.1
-
-pub all_both : {A : Type 0} (P : A → Type 0) (xs ys : List A) → AllByRecursion P xs → AllByRecursion P ys → AllByRecursion P (xs ++ ys)
-all_both P [] ys one two = two
-all_both P (x ∷ xs) ys one two = (one.0, all_both P xs ys one.1 two)
-
-filter_step : {A : Type 0} (P : A → Type 0) (test : A → Bool) (b : Bool) (x : A) (xs : List A) → test x ≡ b → P x → AllByRecursion P (filter test xs) → AllByRecursion P (filter test (x ∷ xs))
-filter_step P test true x xs is here rest = rw is (here, rest)
-filter_step P test false x xs is here rest = rw is rest
-
-pub all_filter : {A : Type 0} (P : A → Type 0) (test : A → Bool) (xs : List A) → AllByRecursion P xs → AllByRecursion P (filter test xs)
-all_filter P test [] all = tt
-all_filter P test (x ∷ xs) all = filter_step P test (test x) x xs refl all.0 (all_filter P test xs all.1)
-
 module _ {A : Type 0} (P : A → Type 0) (spell : List A → List ℕ) (joins : (xs ys : List A) → spell (xs ++ ys) ≡ spell xs ++ spell ys) (all : List A) where
   split_more : (gone left rest : List A) (x : A) → all ≡ gone ++ left → left ≡ x ∷ rest → all ≡ (gone ++ x ∷ []) ++ rest
   split_more gone left rest x split first = split ∙ ap (λ xs. gone ++ xs) first ∙ sym (append_assoc gone (x ∷ []) rest)
@@ -132,4 +113,4 @@ module _ {A : Type 0} (P : A → Type 0) (spell : List A → List ℕ) (joins : 
 
 -- the next one is one of all
 pub next_is : {A : Type 0} (P : A → Type 0) (spell : List A → List ℕ) (all left rest : List A) (x : A) (old mid : Option (List ℕ)) → Writing P spell all left old mid → left ≡ x ∷ rest → AllByRecursion P all → P x
-next_is P spell all left rest x old mid w first fit = in_middle P w.gone x rest (subst (AllByRecursion P) (w.split ∙ ap (λ xs. w.gone ++ xs) first) fit)
+next_is P spell all left rest x old mid w first fit = all_at P w.gone x rest (subst (AllByRecursion P) (w.split ∙ ap (λ xs. w.gone ++ xs) first) fit)

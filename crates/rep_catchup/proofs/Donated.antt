@@ -1,6 +1,6 @@
 -- What a donor writes is what the joiner needs.
 use Rattle.std.proofs.Common.{◌≡◌, ℕ, zero, suc, ◌+◌, ◌-◌, ◌≤◌, ◌<◌, ◌^◌, Bool, true, false, List, [], ◌∷◌, ◌++◌, length, map, take, Option, None, Some, Result, Ok, Err, inl, inr, refl, sym, ap, subst, ◌∙◌, append_assoc, arith, length-append}
-use Rattle.std.specs.Prelude.{nat_lt, slice_index, filter, IfSome}
+use Rattle.std.specs.Prelude.{nat_lt, slice_index, IfSome}
 use Rattle.std.specs.List.{flat_map, range_with_len, AllByRecursion}
 use Rattle.std.specs.List.Sorted.{IsStrictlyIncreasing}
 use Rattle.std.specs.Io.KnownBytes.{Appends}
@@ -17,6 +17,8 @@ use Rattle.rep_types.specs.declared.limits.TheConstants.{MAX_SEQNO}
 use Rattle.rep_types.specs.Settings.{Setting, IsRow, is_setting, pages_of}
 use Rattle.rep_types.specs.Windows.{Window as Kept, fixed}
 use Rattle.rep_types.specs.Order.{State}
+use Rattle.rep_types.proofs.Choices.{neither_some}
+use Rattle.rep_types.proofs.Lists.{filter_no_longer}
 use Rattle.rep_forms.specs.Forms.{number_bytes}
 use Rattle.rep_disk.specs.declared.disk.Disk.{Ghosts}
 use Rattle.rep_layout.specs.declared.format.Format.{Format}
@@ -45,7 +47,7 @@ use Rattle.rep_transfer.specs.Transfers.{Snapshot, Transfer, IsTransfer, IsTold,
 use Rattle.rep_transfer.specs.Writing.{Wrote}
 use Rattle.rep_catchup.specs.Snapshots.{with_pages, state_of, number_of, IsSnapshot}
 use Rattle.rep_catchup.specs.Donating.{IsRunning, ReadsAlone, as_seen, is_in_slot, held_below, rows_below, StandsBeside, ArePages, ArePagesBelow, IsPageThere, IsSnapshotThere, AreAllBlocks, AreBlocksThere, IsSnapshotFor, IsSnapshotOf, IsDonated, IsBaseFor, NeedsSnapshot, ComesWhereNeeded, HasAllParts, Brings, KnowsWindow, KnowsPages, KnowsSnapshot, KnowsBlocks, Donates, WroteFront, WroteLess, Writes, above, behind, durable_items, tail_part, window_part}
-use Rattle.rep_catchup.proofs.DonateReads.{not_halted, same_of, seen_before}
+use Rattle.rep_catchup.proofs.DonateReads.{same_of, seen_before}
 use Rattle.rep_catchup.proofs.DonateWrites.{front_before, front_behind, front_less, front_none, front_of_wrote, writes_mapped}
 use Rattle.rep_catchup.proofs.DonateWindow.{some_window}
 use Rattle.rep_catchup.proofs.DonatePages.{pages_none}
@@ -64,7 +66,7 @@ pub record IsBaseOf (n : Node) (b : SuperBody) : Type 0 where
 
 pub base_of : {D : Type 0} (g : Ghosts D) (n : Node) (r : Replica D) → Holds g n r → IsRunning r → IsBaseOf n r.engine.checkpoint.base
 base_of g n r holds runs =
-    let there = holds.engine.runs (not_halted r.stopped r.engine.halted runs) in
+    let there = holds.engine.runs ((neither_some r.stopped r.engine.halted runs).1) in
     let base = there.stands.checkpoint.base in
     let at : n.facts.base ≡ r.engine.checkpoint.base.position = ap (λ (s : Standing). s.base) holds.facts in
     record {
@@ -110,17 +112,8 @@ length_map : (pages : List NumberedPage) → length (map number_of pages) ≡ le
 length_map [] = refl
 length_map (p ∷ pages) = ap suc (length_map pages)
 
--- there are no more pages than numbers
-filter_step : (test : ℕ → Bool) (b : Bool) (x : ℕ) (xs : List ℕ) → test x ≡ b → length (filter test xs) ≤ length xs → length (filter test (x ∷ xs)) ≤ suc (length xs)
-filter_step test true x xs is short = rw is (omega (arith, short))
-filter_step test false x xs is short = rw is (omega (arith, short))
-
-filter_short : (test : ℕ → Bool) (xs : List ℕ) → length (filter test xs) ≤ length xs
-filter_short test [] = omega arith
-filter_short test (x ∷ xs) = filter_step test (test x) x xs refl (filter_short test xs)
-
 held_few : (b : SuperBody) (n : ℕ) → length (held_below b n) ≤ n
-held_few b n = omega (arith, filter_short (λ (page : ℕ). is_in_slot (state_of_page b page)) (range_with_len 0 n), length-range_with_len 0 n)
+held_few b n = omega (arith, filter_no_longer (λ (page : ℕ). is_in_slot (state_of_page b page)) (range_with_len 0 n), length-range_with_len 0 n)
 
 -- ---- on any device
 

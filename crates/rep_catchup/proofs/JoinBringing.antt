@@ -12,6 +12,7 @@ use Rattle.rep_types.specs.declared.refusal.Refusal.TheVariants.{DiskFault, Malf
 use Rattle.rep_types.specs.Settings.{Setting}
 use Rattle.rep_types.specs.Order.{State}
 use Rattle.rep_types.specs.Windows.{Window}
+use Rattle.rep_types.proofs.Lists.{get_behind, all_behind, all_push, flat_map_push}
 use Rattle.rep_forms.specs.Forms.{number, number_bytes}
 use Rattle.rep_forms.specs.FormLaws.{number_is_form}
 use Rattle.rep_disk.specs.declared.disk.Disk.{Ghosts}
@@ -47,7 +48,7 @@ use Rattle.rep_transfer.specs.Transfers.{Snapshot, SnapshotFits, kept_bytes}
 use Rattle.rep_catchup.specs.Growing.{EndsRunning}
 use Rattle.rep_catchup.specs.Snapshots.{with_pages, state_of, number_of, IsPageOf, IsSnapshot, CanTell, Took, IsKept, TakesKept, NoneKeptComes, TakesWindow, TakesPages, LeavesPages, NoPagesCome, TakesSnapshot, Brought, GivenUp, NoneComes, BringsEarly, LeavesSnapshot}
 use Rattle.rep_catchup.proofs.JoinGrowing.{is_running}
-use Rattle.rep_catchup.proofs.JoinTaking.{took_none, took_then, same_first, same_front, none_more, all_behind, all_push, flat_push}
+use Rattle.rep_catchup.proofs.JoinTaking.{took_none, took_then, same_first, same_front, none_more}
 use Rattle.rep_catchup.proofs.WindowLimits.{kept_fits}
 use Rattle.rep_catchup.proofs.JoinWindow.{same_kept}
 use Rattle.rep_catchup.proofs.JoinFollowing.{none_ahead}
@@ -119,12 +120,8 @@ pub record Came {D : Type 0} (g : Ghosts D) (old now : Bringing D) (count least 
   pub free : (page : ℕ) → least ≤ page → state_of_page now.coming.next.super page ≡ Nowhere
   pub takes : TakesPages g old now pages from at before left
 
-at_length : (xs : List ℕ) (y : ℕ) (ys : List ℕ) → get_or (xs ++ y ∷ ys) (length xs) 0 ≡ y
-at_length [] y ys = refl
-at_length (x ∷ xs) y ys = at_length xs y ys
-
 last_of : (P : ℕ → Type 0) (xs : List ℕ) (y : ℕ) → All P (xs ++ y ∷ []) → P y
-last_of P xs y all = subst P (at_length xs y []) (All-get_or P (xs ++ y ∷ []) (length xs) 0 (omega (arith, length_push xs y)) all)
+last_of P xs y all = subst P (get_behind xs [] y 0) (All-get_or P (xs ++ y ∷ []) (length xs) 0 (omega (arith, length_push xs y)) all)
 
 -- those before one are below it
 all_below : (xs : List ℕ) (y : ℕ) (ys : List ℕ) → IsStrictlyIncreasing (xs ++ y ∷ ys) → All (λ (n : ℕ). n < y) xs
@@ -133,7 +130,7 @@ all_below xs y ys up =
     (λ i within.
     let size : length (xs ++ y ∷ ys) ≡ length xs + suc (length ys) = length-append xs (y ∷ ys) in
     let low : get_or (xs ++ y ∷ ys) i 0 ≡ get_or xs i 0 = get_or_append_left xs (y ∷ ys) 0 i within in
-    let high : get_or (xs ++ y ∷ ys) (length xs) 0 ≡ y = at_length xs y ys in
+    let high : get_or (xs ++ y ∷ ys) (length xs) 0 ≡ y = get_behind xs ys y 0 in
     let apart : get_or (xs ++ y ∷ ys) i 0 < get_or (xs ++ y ∷ ys) (length xs) 0 = AllPairs-from_increasing (xs ++ y ∷ ys) up i (length xs) 0 within (omega (arith, size)) in
     omega (arith, apart, low, high))
 
@@ -182,7 +179,7 @@ module _ {D : Type 0} (g : Ghosts D) where
             fit = all_push PageFits pages p t.fit fits;
             ascend = subst IsStrictlyIncreasing (sym (map-append number_of pages (p ∷ []))) (ascend_push (map number_of pages) p.number t.ascend (all_lower (map number_of pages) least p.number above came.below));
             of_schema = all_push (IsPageOf old.engine.checkpoint.base.params.rows) pages p t.of_schema (subst (λ (b : SuperBody). IsPageOf b.params.rows p) base_is (of_new_page now.engine.checkpoint.base now.coming.next p is_new));
-            took = subst (Took from at start left) (sym (flat_push page_bytes pages p)) (took_then from mid at start before left (flat_map page_bytes pages) (page_bytes p) t.took took);
+            took = subst (Took from at start left) (sym (flat_map_push page_bytes pages p)) (took_then from mid at start before left (flat_map page_bytes pages) (page_bytes p) t.took took);
             running = running;
             uuid = ap (λ (i : Coming). i.next.super.uuid) done ∙ t.uuid;
             params = ap (λ (i : Coming). i.next.super.params) done ∙ t.params;

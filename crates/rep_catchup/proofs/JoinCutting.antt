@@ -10,6 +10,7 @@ use Rattle.rep_types.specs.ByItems.{HistoryByItems}
 use Rattle.rep_types.specs.declared.judged.Judged.{Judged}
 use Rattle.rep_types.specs.Order.{Order}
 use Rattle.rep_types.specs.Settings.{Setting}
+use Rattle.rep_types.proofs.Lists.{same_behind, all_append}
 use Rattle.rep_forms.specs.Forms.{number_bytes}
 use Rattle.rep_record.specs.Records.{IsRecord}
 use Rattle.rep_disk.specs.declared.disk.Disk.{Ghosts}
@@ -32,7 +33,7 @@ use Rattle.rep_catchup.specs.Growing.{Grown}
 use Rattle.rep_catchup.specs.Joining.{JoinsEarly, Went, GoesOn, Follows, Followed, MayFollow, NoneFollows, NoSnapshotComes, EndsHere, IsOut, Cut, CutShort, TakesHeader, RefusesHeader, Ended}
 use Rattle.rep_catchup.proofs.JoinGrowing.{early_work, grown_none, grown_then}
 use Rattle.rep_catchup.proofs.JoinTaking.{same_part}
-use Rattle.rep_catchup.proofs.JoinFollowing.{all_both, flat_both}
+use Rattle.rep_catchup.proofs.JoinFollowing.{flat_both}
 use Rattle.rep_catchup.proofs.JoinWent.{stands_is, went_records, went_snapshot, went_nowhere, went_broken}
 
 -- ---- what stands at the front of known bytes
@@ -61,12 +62,8 @@ counted_from at now n m is = omega (arith, is)
 all_bytes : (format : Format) (position : ℕ) (s : Snapshot) → position ≡ s.position → part_bytes (OfSnapshot position) ++ rest_of format s ≡ snapshot_bytes format s
 all_bytes format position s is = ap (λ n. (83 ∷ number_bytes 8 n) ++ rest_of format s) is
 
-behind : (bs xs ys : List ℕ) → bs ++ xs ≡ bs ++ ys → xs ≡ ys
-behind [] xs ys is = is
-behind (b ∷ bs) xs ys is = behind bs xs ys (let rest : bs ++ xs ≡ bs ++ ys = cc in rest)
-
 behind_same : (m n : ℕ) (xs ys : List ℕ) → m ≡ n → part_bytes (OfSnapshot m) ++ xs ≡ part_bytes (OfSnapshot n) ++ ys → xs ≡ ys
-behind_same m n xs ys is same = behind (part_bytes (OfSnapshot n)) xs ys (ap (λ k. part_bytes (OfSnapshot k) ++ xs) (sym is) ∙ same)
+behind_same m n xs ys is same = same_behind (part_bytes (OfSnapshot n)) xs ys (ap (λ k. part_bytes (OfSnapshot k) ++ xs) (sym is) ∙ same)
 
 module _ {D : Type 0} (g : Ghosts D) where
   -- where no part stands none follows
@@ -205,7 +202,7 @@ module _ {D : Type 0} (g : Ghosts D) where
         let both : hand ++ ys ≡ flat_map record_part (first.records ++ cut.records) = ap (λ (bs : List ℕ). bs ++ ys) hand_is ∙ sym (flat_both first.records cut.records) in
         record {
           records = first.records ++ cut.records;
-          are_records = all_both IsRecord first.records cut.records first.are_records cut.are_records;
+          are_records = all_append IsRecord first.records cut.records first.are_records cut.are_records;
           grown = grown_then by_items g joined a b c first.records cut.records first.grown cut.grown;
           left = cut.left;
           taken = subst (Consumes before cut.left) both (Consumes-trans before left cut.left hand ys taken cut.taken);

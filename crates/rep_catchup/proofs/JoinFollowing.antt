@@ -1,7 +1,7 @@
 -- What is taken of a transfer's bytes, part by part.
-use Rattle.std.proofs.Common.{◌≡◌, ◌⊎◌, inl, inr, ℕ, ◌<◌, ◌^◌, true, false, List, [], ◌∷◌, ◌++◌, length, drop, Option, None, Some, Result, Ok, Err, refl, sym, ap, subst, ◌∙◌, append_assoc, append-nil, arith, length-append}
+use Rattle.std.proofs.Common.{◌≡◌, ◌⊎◌, inl, inr, ℕ, ◌<◌, ◌^◌, true, List, [], ◌∷◌, ◌++◌, length, drop, Option, None, Some, Result, Ok, Err, refl, sym, ap, subst, ◌∙◌, append_assoc, append-nil, arith, length-append}
 use Rattle.std.specs.Prelude.{IfOk, IfSome, OnOk, MatchOption, Bool, ◌==◌, ◌&&◌}
-use Rattle.std.specs.List.{flat_map, AllByRecursion}
+use Rattle.std.specs.List.{flat_map}
 use Rattle.std.specs.Io.KnownBytes.{Consumes}
 use Rattle.std.proofs.KnownBytes.{Consumes-nil, Consumes-trans}
 use Rattle.std.proofs.lemmas.Bool.Decides.{nat_tests}
@@ -10,6 +10,8 @@ use Rattle.rep_types.specs.declared.refusal.Refusal.{Refusal}
 use Rattle.rep_types.specs.Settings.{Setting}
 use Rattle.rep_types.specs.Order.{Order, items_of, state, history as history_of}
 use Rattle.rep_types.specs.ByItems.{HistoryByItems}
+use Rattle.rep_types.proofs.Choices.{and_left}
+use Rattle.rep_types.proofs.Lists.{all_append}
 use Rattle.rep_forms.specs.Forms.{number_bytes}
 use Rattle.rep_record.specs.Records.{IsRecord}
 use Rattle.rep_disk.specs.declared.disk.Disk.{Ghosts}
@@ -40,26 +42,18 @@ use Rattle.rep_catchup.proofs.JoinWent.{stands_is, starts_there, went_records, w
 
 -- ---- the parts behind a snapshot
 
-pub all_both : {A : Type 0} (P : A → Type 0) (xs ys : List A) → AllByRecursion P xs → AllByRecursion P ys → AllByRecursion P (xs ++ ys)
-all_both P [] ys h k = k
-all_both P (x ∷ xs) ys h k = (h.0, all_both P xs ys h.1 k)
-
 pub flat_both : (xs ys : List Judged) → flat_map record_part (xs ++ ys) ≡ flat_map record_part xs ++ flat_map record_part ys
 flat_both [] ys = refl
 flat_both (x ∷ xs) ys = ap (λ (bs : List ℕ). record_part x ++ bs) (flat_both xs ys) ∙ sym (append_assoc (record_part x) (flat_map record_part xs) (flat_map record_part ys))
 
 -- ---- a quiet replica
 
-both_true : (a b : Bool) → (a && b) ≡ true → a ≡ true
-both_true true b is = refl
-both_true false b is = is
-
 nothing : (xs : List Judged) → length xs ≡ 0 → xs ≡ []
 nothing [] none = refl
 nothing (x ∷ xs) none = absurd (omega (arith, none))
 
 quiet_by : (xs : List Judged) (b : Bool) → ((length xs == 0) && b) ≡ true → xs ≡ []
-quiet_by xs b is = let none : (length xs == 0) ≡ true = both_true (length xs == 0) b is in nothing xs (grind (arith, nat_tests, none))
+quiet_by xs b is = let none : (length xs == 0) ≡ true = and_left (length xs == 0) b is in nothing xs (grind (arith, nat_tests, none))
 
 pub none_ahead : (s : Standing) → is_quiet s ≡ true → s.ahead ≡ []
 none_ahead s quiet = quiet_by s.ahead (is_off s.stage) quiet
@@ -84,7 +78,7 @@ module _ {D : Type 0} (g : Ghosts D) where
     pub follows_then : (a b c : Replica D) (ended : Option ℕ) (one two : List ℕ) → Follows g a b None one → Follows g b c ended two → Follows g a c ended (one ++ two)
     follows_then a b c ended one two first second = record {
       records = first.records ++ second.records;
-      are_records = all_both IsRecord first.records second.records first.are_records second.are_records;
+      are_records = all_append IsRecord first.records second.records first.are_records second.are_records;
       spelled =
           ap (λ (bs : List ℕ). bs ++ two) (first.spelled ∙ append-nil (flat_map record_part first.records)) ∙ ap (λ (bs : List ℕ). flat_map record_part first.records ++ bs) second.spelled
           ∙ sym (append_assoc (flat_map record_part first.records) (flat_map record_part second.records) (end_part ended)) ∙ ap (λ (bs : List ℕ). bs ++ end_part ended) (sym (flat_both first.records second.records));

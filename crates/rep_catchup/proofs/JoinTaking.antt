@@ -1,10 +1,11 @@
 -- What was taken of a reader, and what else the same bytes could have been.
-use Rattle.std.proofs.Common.{◌≡◌, ℕ, ◌+◌, ◌≤◌, ◌<◌, ◌^◌, List, [], ◌∷◌, ◌++◌, length, Option, None, Some, Result, Ok, refl, sym, ap, subst, ◌∙◌, append_assoc, append-nil, arith, length-append}
+use Rattle.std.proofs.Common.{◌≡◌, ℕ, ◌+◌, ◌≤◌, ◌<◌, ◌^◌, List, [], ◌∷◌, ◌++◌, length, Option, None, Some, Result, Ok, refl, sym, ap, subst, ◌∙◌, append_assoc, arith, length-append}
 use Rattle.std.specs.Prelude.{IfOk, IfSome}
 use Rattle.std.specs.List.{flat_map, AllByRecursion}
 use Rattle.std.specs.Io.KnownBytes.{Consumes}
 use Rattle.std.proofs.KnownBytes.{Consumes-nil, Consumes-trans}
 use Rattle.rep_types.specs.declared.refusal.Refusal.{Refusal}
+use Rattle.rep_types.proofs.Lists.{all_behind, same_first as same_cons}
 use Rattle.rep_forms.specs.Forms.{Form, IsForm, number, number_bytes}
 use Rattle.rep_forms.specs.FormLaws.{number_is_form}
 use Rattle.rep_record.specs.Records.{record_form, record_bytes}
@@ -60,18 +61,6 @@ took_piece {A} Fits spell start now a b x result is known counts =
 
 -- ---- lists
 
-pub all_behind : {A : Type 0} (P : A → Type 0) (xs ys : List A) → AllByRecursion P (xs ++ ys) → AllByRecursion P ys
-all_behind P [] ys h = h
-all_behind P (x ∷ xs) ys h = all_behind P xs ys h.1
-
-pub all_push : {A : Type 0} (P : A → Type 0) (xs : List A) (y : A) → AllByRecursion P xs → P y → AllByRecursion P (xs ++ y ∷ [])
-all_push P [] y h k = (k, tt)
-all_push P (x ∷ xs) y h k = (h.0, all_push P xs y h.1 k)
-
-pub flat_push : {A : Type 0} (f : A → List ℕ) (xs : List A) (y : A) → flat_map f (xs ++ y ∷ []) ≡ flat_map f xs ++ f y
-flat_push f [] y = append-nil (f y)
-flat_push f (x ∷ xs) y = ap (λ (bs : List ℕ). f x ++ bs) (flat_push f xs y) ∙ sym (append_assoc (f x) (flat_map f xs) (f y))
-
 -- ---- what the same bytes could have been
 
 abbrev first_in : {A B : Type 0} → A → Option (A × B) → A
@@ -84,12 +73,6 @@ second_in y (Some pair) = pair.1
 
 some_pair : {A B : Type 0} (x y : A) (r t : B) → ◌≡◌ {A = Option (A × B)} (Some (x, r)) (Some (y, t)) → (x ≡ y) × (r ≡ t)
 some_pair x y r t is = (ap (first_in x) is, ap (second_in r) is)
-
-head_same : (a b : ℕ) (xs ys : List ℕ) → a ∷ xs ≡ b ∷ ys → a ≡ b
-head_same a b xs ys is = cc
-
-tail_same : (a b : ℕ) (xs ys : List ℕ) → a ∷ xs ≡ b ∷ ys → xs ≡ ys
-tail_same a b xs ys is = cc
 
 module _ {A : Type 0} (F : Form A) (form : IsForm F) where
   pub same_first : (x y : A) (rest more : List ℕ) → F.Fits x → F.Fits y → F.spell x ++ rest ≡ F.spell y ++ more → (x ≡ y) × (rest ≡ more)
@@ -121,12 +104,12 @@ module _ {A : Type 0} (F : Form A) (form : IsForm F) where
 
 -- a part is the one that stands there
 pub same_part : (p q : Part) (rest more : List ℕ) → PartFits p → PartFits q → part_bytes p ++ rest ≡ part_bytes q ++ more → p ≡ q
-same_part (Snapshot m) (Snapshot n) rest more one two is = ap Snapshot (same_first (number 8) (number_is_form 8) m n rest more one two (tail_same 83 83 (number_bytes 8 m ++ rest) (number_bytes 8 n ++ more) is)).0
-same_part (Snapshot m) (Record j) rest more one two is = absurd (omega (arith, head_same 83 73 (number_bytes 8 m ++ rest) (record_bytes j ++ more) is))
-same_part (Snapshot m) (End n) rest more one two is = absurd (omega (arith, head_same 83 69 (number_bytes 8 m ++ rest) (number_bytes 8 n ++ more) is))
-same_part (Record i) (Snapshot m) rest more one two is = absurd (omega (arith, head_same 73 83 (record_bytes i ++ rest) (number_bytes 8 m ++ more) is))
-same_part (Record i) (Record j) rest more one two is = ap Record (same_first record_form record_is_form i j rest more one two (tail_same 73 73 (record_bytes i ++ rest) (record_bytes j ++ more) is)).0
-same_part (Record i) (End n) rest more one two is = absurd (omega (arith, head_same 73 69 (record_bytes i ++ rest) (number_bytes 8 n ++ more) is))
-same_part (End n) (Snapshot m) rest more one two is = absurd (omega (arith, head_same 69 83 (number_bytes 8 n ++ rest) (number_bytes 8 m ++ more) is))
-same_part (End n) (Record j) rest more one two is = absurd (omega (arith, head_same 69 73 (number_bytes 8 n ++ rest) (record_bytes j ++ more) is))
-same_part (End m) (End n) rest more one two is = ap End (same_first (number 8) (number_is_form 8) m n rest more one two (tail_same 69 69 (number_bytes 8 m ++ rest) (number_bytes 8 n ++ more) is)).0
+same_part (Snapshot m) (Snapshot n) rest more one two is = ap Snapshot (same_first (number 8) (number_is_form 8) m n rest more one two ((same_cons 83 83 (number_bytes 8 m ++ rest) (number_bytes 8 n ++ more) is).1)).0
+same_part (Snapshot m) (Record j) rest more one two is = absurd (omega (arith, (same_cons 83 73 (number_bytes 8 m ++ rest) (record_bytes j ++ more) is).0))
+same_part (Snapshot m) (End n) rest more one two is = absurd (omega (arith, (same_cons 83 69 (number_bytes 8 m ++ rest) (number_bytes 8 n ++ more) is).0))
+same_part (Record i) (Snapshot m) rest more one two is = absurd (omega (arith, (same_cons 73 83 (record_bytes i ++ rest) (number_bytes 8 m ++ more) is).0))
+same_part (Record i) (Record j) rest more one two is = ap Record (same_first record_form record_is_form i j rest more one two ((same_cons 73 73 (record_bytes i ++ rest) (record_bytes j ++ more) is).1)).0
+same_part (Record i) (End n) rest more one two is = absurd (omega (arith, (same_cons 73 69 (record_bytes i ++ rest) (number_bytes 8 n ++ more) is).0))
+same_part (End n) (Snapshot m) rest more one two is = absurd (omega (arith, (same_cons 69 83 (number_bytes 8 n ++ rest) (number_bytes 8 m ++ more) is).0))
+same_part (End n) (Record j) rest more one two is = absurd (omega (arith, (same_cons 69 73 (number_bytes 8 n ++ rest) (record_bytes j ++ more) is).0))
+same_part (End m) (End n) rest more one two is = ap End (same_first (number 8) (number_is_form 8) m n rest more one two ((same_cons 69 69 (number_bytes 8 m ++ rest) (number_bytes 8 n ++ more) is).1)).0

@@ -8,6 +8,7 @@ use Rattle.rep_types.specs.Windows.{Window}
 use Rattle.rep_types.specs.Order.{Order, items_of, history, verdict, judge, window, state}
 use Rattle.rep_types.specs.ByItems.{HistoryByItems}
 use Rattle.rep_types.specs.Verdicts.{StateIsEnough}
+use Rattle.rep_types.proofs.Lists.{same_behind}
 use Rattle.rep_steps.specs.Standings.{delivered}
 use Rattle.rep_steps.specs.Nodes.{Node, IsNode, window_at}
 use Rattle.rep_steps.specs.Images.{JudgedItemsExtendTheOrder}
@@ -26,9 +27,6 @@ use Rattle.rep_catchup.proofs.Orders.{above_drop, items_so_far, seqnos}
 drop_front : {X : Type 0} (xs ys : List X) → drop (length xs) (xs ++ ys) ≡ ys
 drop_front [] ys = refl
 drop_front (x ∷ xs) ys = drop_front xs ys
-
-same_behind : {X : Type 0} (zs xs ys : List X) → zs ++ xs ≡ zs ++ ys → xs ≡ ys
-same_behind zs xs ys same = sym (drop_front zs xs) ∙ ap (drop (length zs)) same ∙ drop_front zs ys
 
 same_one : {X : Type 0} (x y : X) → x ∷ [] ≡ y ∷ [] → x ≡ y
 same_one x y same = cc

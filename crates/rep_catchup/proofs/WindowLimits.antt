@@ -1,12 +1,12 @@
 -- The numbers of a window of a position are in the range of their types, and such windows there are.
-use Rattle.std.proofs.Common.{◌≡◌, ℕ, zero, suc, ◌-◌, ◌^◌, ◌<◌, ◌≤◌, true, List, [], ◌∷◌, length, refl, arith}
-use Rattle.std.specs.Prelude.{slice_index}
+use Rattle.std.proofs.Common.{◌≡◌, ℕ, ◌-◌, ◌^◌, ◌<◌, ◌≤◌, true, List, [], ◌∷◌, length, refl, arith}
 use Rattle.std.specs.List.{list_all, AllByRecursion}
 use Rattle.std.proofs.lemmas.Bool.Decides.{nat_tests}
 use Rattle.rep_types.specs.declared.key.Key.{Key}
 use Rattle.rep_types.specs.Entries.{Entry}
 use Rattle.rep_types.specs.Settings.{Setting, is_setting, has_row}
 use Rattle.rep_types.specs.Windows.{Window, fixed, is_window_size}
+use Rattle.rep_types.proofs.Lists.{below_one_of}
 use Rattle.rep_forms.specs.Keys.{KeyFits}
 use Rattle.rep_forms.specs.Entries.{EntryFits}
 use Rattle.rep_layout.specs.declared.format.Format.{Format}
@@ -25,14 +25,9 @@ kept_fits p position v small w =
 
 -- ---- its entries can be spelled
 
-row_fits : (rows : List ℕ) (table row : ℕ) → AllByRecursion (λ (n : ℕ). n < 2 ^ 32) rows → row < slice_index rows table → (table < length rows) × (row < 2 ^ 32)
-row_fits [] table row h lt = grind arith
-row_fits (n ∷ rows) zero row h lt = grind arith
-row_fits (n ∷ rows) (suc table) row h lt = grind (arith, row_fits rows table row h.1)
-
 keys_fit : (rows : List ℕ) (keys : List Key) → AllByRecursion (λ (n : ℕ). n < 2 ^ 32) rows → length rows ≤ 8 → list_all (has_row rows) keys ≡ true → AllByRecursion KeyFits keys
 keys_fit rows [] fit few h = tt
-keys_fit rows (key ∷ keys) fit few h = (grind (arith, nat_tests, row_fits rows key.table key.row fit), keys_fit rows keys fit few (grind (arith, nat_tests)))
+keys_fit rows (key ∷ keys) fit few h = (grind (arith, nat_tests, below_one_of rows key.table key.row fit), keys_fit rows keys fit few (grind (arith, nat_tests)))
 
 pub entries_fit : (p : Setting) (lowest position : ℕ) (es : List Entry) → is_setting p ≡ true → position < 2 ^ 64 → AllByRecursion (IsEntry p lowest position) es → AllByRecursion EntryFits es
 entries_fit p lowest position [] setting small h = tt

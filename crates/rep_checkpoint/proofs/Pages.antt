@@ -7,6 +7,7 @@ use Rattle.std.proofs.lemmas.List.{get_or_append_left, get_or_past}
 use Rattle.std.proofs.Math.Seq.{get_or-append_seam}
 use Rattle.rep_types.specs.declared.key.Key.{Key}
 use Rattle.rep_types.specs.Settings.{IsRow}
+use Rattle.rep_types.proofs.Choices.{or_cases, or_right}
 use Rattle.rep_layout.specs.declared.page_state.PageState.{PageState}
 use Rattle.rep_layout.specs.declared.page_state.PageState.TheVariants.{Nowhere}
 use Rattle.rep_layout.specs.Rows.{row_place}
@@ -17,14 +18,6 @@ use Rattle.rep_checkpoint.specs.Next.{is_in}
 use Rattle.rep_checkpoint.specs.Moves.{turn, turned, next_super}
 
 -- ---- whether a page is one of some
-
-or_cases : (a b : Bool) → (a || b) ≡ true → (a ≡ true) ⊎ (b ≡ true)
-or_cases true b e = inl refl
-or_cases false b e = inr e
-
-or_right : (a b : Bool) → b ≡ true → (a || b) ≡ true
-or_right true b e = refl
-or_right false b e = e
 
 -- it stands among them
 pub contains_in : (pages : List ℕ) (page : ℕ) → is_in pages page ≡ true → Contains pages page

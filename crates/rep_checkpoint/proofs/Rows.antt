@@ -1,6 +1,6 @@
 -- What versions say of the state that a node's items lead to.
 use Rattle.std.proofs.Common.{◌≡◌, ℕ, zero, suc, ◌+◌, ◌-◌, Bool, true, false, List, [], ◌∷◌, take, map, Option, None, Some, refl, sym, ap, ◌∙◌, arith}
-use Rattle.std.specs.Prelude.{if◌then◌else◌, not, nat_lt, nat_le, ◌&&◌, slice_index_or}
+use Rattle.std.specs.Prelude.{if◌then◌else◌, not, nat_lt, nat_le, slice_index_or}
 use Rattle.std.specs.Option.{option_or}
 use Rattle.std.specs.List.{list_all}
 use Rattle.std.proofs.lemmas.Bool.Decides.{nat_tests}
@@ -18,6 +18,7 @@ use Rattle.rep_types.specs.Settings.{Setting, has_row, IsRow}
 use Rattle.rep_types.specs.Windows.{Window as WindowOf}
 use Rattle.rep_types.specs.Items.{writes_of}
 use Rattle.rep_types.specs.Order.{State, latest, counts, is_commit, in_schema, judge, content_after, conflict_with, greatest, seqnos_against}
+use Rattle.rep_types.proofs.Choices.{and_left, and_right}
 use Rattle.rep_types.proofs.Touches.{key_eq-true}
 use Rattle.rep_versions.specs.Versions.{Kept}
 use Rattle.rep_versions.specs.Following.{AreVersionsOf, VersionsFollowTheItems, made_by, effect_of, rows_after}
@@ -52,22 +53,13 @@ pub commits_inside : (p : Setting) (position : ℕ) (v : WindowOf) (w : Transact
 commits_inside p position v w e =
     passes (nat_le (position + 1) w.last_seen) (in_schema p w) (nat_lt (w.last_seen + 1) v.floor) (conflict_with (greatest (seqnos_against w v.entries))) e
 
-pub both_right : (a b : Bool) → (a && b) ≡ true → b ≡ true
-both_right true b e = e
-both_right false b e = absurd cc
-
 pub writes_inside : (p : Setting) (w : Transaction) → in_schema p w ≡ true → list_all (has_row p.rows) (written w) ≡ true
-writes_inside p w e = both_right (list_all (has_row p.rows) w.reads) (list_all (has_row p.rows) (written w)) (sym (list_all-append (has_row p.rows) w.reads (written w)) ∙ e)
+writes_inside p w e = and_right (list_all (has_row p.rows) w.reads) (list_all (has_row p.rows) (written w)) (sym (list_all-append (has_row p.rows) w.reads (written w)) ∙ e)
 
 -- what an item that commits writes are rows of the schema: a change of the window's size writes nothing
 pub commits_writes_inside : (p : Setting) (position : ℕ) (v : WindowOf) (i : Item) → is_commit (judge p position v i) ≡ true → list_all (has_row p.rows) (map (λ (write : Write). write.key) (writes_of i)) ≡ true
 commits_writes_inside p position v (WriteSet w) e = writes_inside p w (commits_inside p position v w e)
 commits_writes_inside p position v (SetWindow c) e = refl
-
--- rows of the schema aren't this key
-pub both_left : (a b : Bool) → (a && b) ≡ true → a ≡ true
-both_left true b e = refl
-both_left false b e = absurd cc
 
 one_latest : (rows : List ℕ) (key : Key) (write : Write) (last : Option Write) → has_row rows key ≡ false → has_row rows write.key ≡ true → last ≡ None → (b : Bool) → key_eq write.key key ≡ b → option_or last (if key_eq write.key key then Some write else None) ≡ None
 one_latest rows key write last out inside none true is =
@@ -79,7 +71,7 @@ none_latest : (rows : List ℕ) (key : Key) → has_row rows key ≡ false → (
 none_latest rows key out [] all = refl
 none_latest rows key out (write ∷ writes) all =
     let others = list_all (has_row rows) (map (λ (w : Write). w.key) writes) in
-    one_latest rows key write (latest (λ (w : Write). key_eq w.key key) writes) out (both_left (has_row rows write.key) others all) (none_latest rows key out writes (both_right (has_row rows write.key) others all)) (key_eq write.key key) refl
+    one_latest rows key write (latest (λ (w : Write). key_eq w.key key) writes) out (and_left (has_row rows write.key) others all) (none_latest rows key out writes (and_right (has_row rows write.key) others all)) (key_eq write.key key) refl
 
 -- so what lies outside stays absent
 advanced_outside : (p : Setting) (S : State) (j : Judged) (key : Key) → has_row p.rows key ≡ false → j.verdict ≡ judge p S.position S.kept j.item → (advanced p S j).content key ≡ S.content key

@@ -16,6 +16,7 @@ use Rattle.rep_types.specs.Keys.{key_eq}
 use Rattle.rep_types.specs.Settings.{Setting, has_row, IsRow, pages_of}
 use Rattle.rep_types.specs.Items.{writes_of}
 use Rattle.rep_types.specs.Order.{State, latest, counts, is_commit, judge}
+use Rattle.rep_types.proofs.Choices.{and_left, and_right}
 use Rattle.rep_types.proofs.Touches.{key_eq-true, key_eq_refl}
 use Rattle.rep_types.proofs.Members.{Contains-nothing, Contains-first, Contains-behind, Contains-cons_cases, Contains-filter, Contains-from_filter}
 use Rattle.rep_layout.specs.Rows.{row_place, RowPlacesAreTold}
@@ -24,7 +25,7 @@ use Rattle.rep_versions.specs.Following.{AreVersionsOf, made_by, written_at, eff
 use Rattle.rep_steps.specs.Moves.{below, is_touched, touched}
 use Rattle.rep_steps.specs.Nodes.{advanced}
 use Rattle.rep_steps.specs.Images.{AreJudgedFrom}
-use Rattle.rep_checkpoint.proofs.Rows.{commits_writes_inside, both_left, both_right}
+use Rattle.rep_checkpoint.proofs.Rows.{commits_writes_inside}
 
 -- ---- lists of the same numbers that rise
 
@@ -205,7 +206,7 @@ module _ (p : Setting) where
   wrote page [] inside touches = absurd cc
   wrote page (write ∷ writes) inside touches =
       let others = list_all (has_row p.rows) (map (λ (w : Write). w.key) writes) in
-      wrote_step page write writes ((row_place p.rows write.key).page == page) refl (both_left (has_row p.rows write.key) others inside) (λ later. wrote page writes (both_right (has_row p.rows write.key) others inside) later) touches
+      wrote_step page write writes ((row_place p.rows write.key).page == page) refl (and_left (has_row p.rows write.key) others inside) (λ later. wrote page writes (and_right (has_row p.rows write.key) others inside) later) touches
 
   -- ---- what the items touch
 
@@ -245,9 +246,9 @@ module _ (p : Setting) where
   change_step : (S : State) (j : Judged) (js : List Judged) (past page : ℕ) → j.verdict ≡ judge p S.position S.kept j.item → (is_touched p.rows (take past js) page ≡ true → Change js past page) → (b : Bool) → (counts j && writes_to page (writes_of j.item)) ≡ b
       → (b || is_touched p.rows (take past js) page) ≡ true → Change (j ∷ js) (suc past) page
   change_step S j js past page verdict later true is touches =
-      let commits : counts j ≡ true = both_left (counts j) (writes_to page (writes_of j.item)) is in
+      let commits : counts j ≡ true = and_left (counts j) (writes_to page (writes_of j.item)) is in
       let inside = commits_writes_inside p S.position S.kept j.item (ap is_commit (sym verdict) ∙ commits) in
-      let w = wrote page (writes_of j.item) inside (both_right (counts j) (writes_to page (writes_of j.item)) is) in
+      let w = wrote page (writes_of j.item) inside (and_right (counts j) (writes_to page (writes_of j.item)) is) in
       record { i = 0; before = omega arith; key = w.key; row = w.row; there = w.there; some = change_by (counts j) (writes_of j.item) w.key commits w.some }
   change_step S j js past page verdict later false is touches =
       let c = later touches in

@@ -1,6 +1,6 @@
 //! How a checkpoint goes on: the writes behind the pages, and syncs.
 
-ghost use Rattle.std.specs.Prelude.{◌≡◌, None, IfErr, IfSome, OnErr, length};
+ghost use Rattle.std.specs.Prelude.{◌≡◌, None, IfErr, IfSome, OnErr, false, length};
 ghost use Rattle.rep_disk.specs.Devices.{Calls};
 ghost use Rattle.rep_layout.specs.Places.{offset_of, layout_of as places_of};
 ghost use Rattle.rep_layout.specs.Supers.{IsSuper, super_bytes};
@@ -184,9 +184,35 @@ impl Checkpoint {
         }
     }
 
+    /// Whether a sync that succeeds moves it on. Most do not, and then the next base, of some 8 KB, is not moved about.
+    fn awaits_sync(&self) -> bool
+        ensures stays { result ≡ false → (after_sync self.now ≡ self.now) × (is_opening self.now.stage ≡ false) }
+        ensures checkpoint { IsCheckpoint self.now }
+    {
+        match &self.stage {
+            Stage::Toward(_, part) => {
+                matches!(part, Part::Saving | Part::SuperFilling | Part::SuperOpening)
+            }
+            Stage::Retiring(written) => *written,
+            Stage::Off => false,
+        }
+    }
+
     /// Moves on by a sync that succeeded. It stands apart from `synced`, whose law is of all that this does
     /// together.
     fn settle(&mut self) -> bool
+        ensures rose { result ≡ is_opening self.old.stage }
+        ensures after { self.new ≡ after_sync self.old }
+        ensures checkpoint { IsCheckpoint self.old }
+    {
+        if !self.awaits_sync() {
+            return false;
+        }
+        self.move_on()
+    }
+
+    /// Moves on by a sync that succeeded.
+    fn move_on(&mut self) -> bool
         ensures rose { result ≡ is_opening self.old.stage }
         ensures after { self.new ≡ after_sync self.old }
         ensures checkpoint { IsCheckpoint self.old }

@@ -1,7 +1,8 @@
 -- What a call answered, from what was found out of it.
-use Rattle.std.proofs.Common.{◌≡◌, true, false, List, Option, None, Some, refl, sym, ap, ◌∙◌}
+use Rattle.std.proofs.Common.{◌≡◌, false, List, Option, None, sym, ap, ◌∙◌}
 use Rattle.std.specs.Prelude.{is_some}
 use Rattle.rep_types.specs.declared.judged.Judged.{Judged}
+use Rattle.rep_types.proofs.Choices.{none_by_test}
 use Rattle.rep_layout.specs.declared.place.Layout.{Layout}
 use Rattle.rep_cells.specs.declared.cells.Cells.{Cells}
 use Rattle.rep_cells.specs.Device.{disk_of, layout_of}
@@ -21,17 +22,9 @@ came_out old disk l checkpoint halted by same is =
     ap (λ (k : Layout). record old { disk = disk; layout = k; checkpoint = checkpoint; halted = halted }) same
     ∙ ap (λ (o : Option Phase). record old { disk = disk; checkpoint = checkpoint; halted = o }) is
 
-none_of : {T : Type 0} (o : Option T) → false ≡ is_some o → o ≡ None
-none_of None e = refl
-none_of (Some x) e = absurd cc
-
--- and not both
-pub not_both : {T : Type 0} (o : Option T) → is_some o ≡ true → o ≡ None → ⊥
-not_both o some none = let never : false ≡ true = sym (ap is_some none) ∙ some in absurd cc
-
 -- the engine before a call that was not refused for it runs
 pub runs_of : {D : Type 0} {within old : Engine D} → within ≡ old → false ≡ is_some within.halted → old.halted ≡ None
-runs_of {D} {within} is still = sym (ap (λ (e : Engine D). e.halted) is) ∙ none_of within.halted still
+runs_of {D} {within} is still = sym (ap (λ (e : Engine D). e.halted) is) ∙ none_by_test within.halted (sym still)
 
 -- and inside of such a call too
 pub runs_within : {D : Type 0} {within old : Engine D} → within ≡ old → old.halted ≡ None → within.halted ≡ None

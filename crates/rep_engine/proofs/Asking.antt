@@ -4,6 +4,7 @@ use Rattle.std.specs.Prelude.{is_some}
 use Rattle.rep_types.specs.declared.refusal.Refusal.{Refusal}
 use Rattle.rep_types.specs.declared.refusal.Refusal.TheVariants.{Stopped, Corrupt, DiskFault as Failed}
 use Rattle.rep_types.specs.declared.refusal.Part.{Part}
+use Rattle.rep_types.proofs.Choices.{none_not_some}
 use Rattle.rep_disk.specs.declared.disk.Disk.{Ghosts}
 use Rattle.rep_disk.specs.declared.disk.DiskFault.{DiskFault}
 use Rattle.rep_disk.specs.History.{stable, IsImage}
@@ -18,7 +19,6 @@ use Rattle.rep_engine.specs.Engines.{Engine, facts_of}
 use Rattle.rep_engine.specs.Holding.{Stands, Holds}
 use Rattle.rep_engine.specs.Reading.{halted_by}
 use Rattle.rep_engine.specs.Donating.{Asks}
-use Rattle.rep_engine.proofs.Answering.{not_both}
 
 module _ {D : Type 0} (g : Ghosts D) (old : Engine D) (runs : old.halted ≡ None) (disk : D) (same : g.failures disk ≡ g.failures old.disk) where
   -- It has the facts that it had,
@@ -68,7 +68,7 @@ asks_stopped {T} g part old stopped = record {
   same = λ is. refl;
   rest = refl;
   stopped = stays old.halted;
-  running = λ runs. absurd (not_both old.halted stopped runs);
+  running = λ runs. absurd (none_not_some old.halted stopped runs);
 }
   where
     stays : (o : Option Phase) → IfSome o (λ _. (◌≡◌ {A = Result T Refusal} (Err Stopped) (Err Stopped)) × (old ≡ old))

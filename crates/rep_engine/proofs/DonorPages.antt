@@ -1,5 +1,5 @@
 -- What a donor reads of an engine that stands for a node: the base, its window and its pages.
-use Rattle.std.proofs.Common.{◌≡◌, ◌≢◌, ◌⊎◌, ℕ, List, Option, None, Some, Result, Ok, Err, inl, inr, refl, sym, ap, subst, ◌∙◌, IfOk, IfErr, IfSome, IsOk}
+use Rattle.std.proofs.Common.{◌≡◌, ◌≢◌, ◌⊎◌, ℕ, List, Option, None, Some, Result, Ok, Err, inl, inr, refl, sym, ap, subst, ◌∙◌, IfOk, IfErr, IfSome}
 use Rattle.rep_types.specs.declared.refusal.Refusal.{Refusal}
 use Rattle.rep_types.specs.declared.refusal.Refusal.TheVariants.{Corrupt, DiskFault}
 use Rattle.rep_types.specs.declared.refusal.Part.TheVariants.{Window as in_window, Pages as in_pages}
@@ -32,11 +32,6 @@ use Rattle.rep_engine.specs.Holding.{Stands, Holds}
 use Rattle.rep_engine.specs.Reading.{halted_by}
 use Rattle.rep_engine.specs.Donating.{Asks, IsBasePage, HasNoRow, IsWindowAsSpelled, IsBasePageAsSpelled}
 use Rattle.rep_engine.proofs.Asking.{holds_read, asks_by}
-
--- What is so of what was read is so where it was.
-pub if_read : {T E P : Type 0} (result : Result T E) → IsOk result → IfOk result (λ _. P) → P
-if_read (Ok x) ok h = h
-if_read (Err e) ok h = absurd cc
 
 -- a page that stands in a slot is one of the schema
 page_form : (r : Reading) (b : SuperBody) (number : ℕ) (page : PageBody) → HasPage r b number page → (slot : Slot) → state_of_page b number ≡ In slot → (first : Key) × IsPage b.params.rows first page

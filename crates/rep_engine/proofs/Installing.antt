@@ -10,6 +10,7 @@ use Rattle.rep_types.specs.declared.value.Write.{Write}
 use Rattle.rep_types.specs.Settings.{Setting}
 use Rattle.rep_types.specs.Order.{State}
 use Rattle.rep_types.specs.Windows.{Window}
+use Rattle.rep_types.proofs.Choices.{of_success}
 use Rattle.rep_disk.specs.declared.disk.Disk.{Ghosts}
 use Rattle.rep_disk.specs.History.{stable, IsImage}
 use Rattle.rep_disk.specs.Moments.{LeavesOnly}
@@ -91,10 +92,6 @@ is_halted_node failures n h = record {
 
 -- ---- how a call comes out
 
-pub ok_of : {T E P : Type 0} (result : Result T E) → IsOk result → OnOk result P → P
-ok_of (Ok x) ok h = h
-ok_of (Err e) ok h = absurd cc
-
 pub ok_fault : (result : Result (Unit {0}) Refusal) → IsOk result → IsOk (fault_of result)
 ok_fault (Ok x) ok = refl
 ok_fault (Err e) ok = absurd cc
@@ -149,12 +146,12 @@ module _ {D : Type 0} (g : Ghosts D) (sized : (disk : D) → g.honest disk → l
     stands_after : IsOk result → after.next.super.start ≡ i.next.super.start → StandsBoth g n z to after
     stands_after ok same = record {
       states = did.states;
-      assigns = subst (λ k. Assigns k (g.history dk) did.states) (sym engine.layout) (ok_of result ok did.reaches.ok);
+      assigns = subst (λ k. Assigns k (g.history dk) did.states) (sym engine.layout) (of_success result ok did.reaches.ok);
       blocks = there.blocks;
       sealed = there.sealed;
       installs =
           subst (λ k. InstallsAs n k old.checkpoint after z old.log there.blocks there.sealed did.states) (sym (long_stays result call))
-          (beside.goes_on n (long g old) old.checkpoint i after y z old.log there.blocks there.sealed there.states did.states did.elsewhere same (ok_of result ok did.after_is) there.installs);
+          (beside.goes_on n (long g old) old.checkpoint i after y z old.log there.blocks there.sealed there.states did.states did.elsewhere same (of_success result ok did.after_is) there.installs);
       versions = there.versions;
       gates = there.gates;
     }
@@ -200,7 +197,7 @@ module _ {D : Type 0} (g : Ghosts D) (sized : (disk : D) → g.honest disk → l
     pub page_holds : hl ≡ halted_by old.log.phase result → IsOk result → HoldsBoth g n (with_page old.checkpoint.base.params.rows page rows y) to k
     page_holds still ok =
         let z = with_page old.checkpoint.base.params.rows page rows y in
-        subst (λ (j : Coming). HoldsBoth g n z to j) (sym (ok_of result ok w.done))
+        subst (λ (j : Coming). HoldsBoth g n z to j) (sym (of_success result ok w.done))
         (holds_both (placed old.checkpoint.base page i) z (call.stays_honest holds.is_honest) (call.no_cause (ok_fault result ok)) (still ∙ ok_runs old.log.phase result ok) (stands_after result call i (placed old.checkpoint.base page i) z (page_did k page rows result w) refl ok refl)
         (λ image here. inl (page_fronts image here)))
 
@@ -233,7 +230,7 @@ module _ {D : Type 0} (g : Ghosts D) (sized : (disk : D) → g.honest disk → l
         holds_both (settled i) y (call.stays_honest holds.is_honest) (call.no_cause (ok_fault result ok)) still
         (record {
           states = did.after;
-          assigns = subst (λ k. Assigns k (g.history dk) did.after) (sym engine.layout) (ok_of (fault_of result) (ok_fault result ok) did.reaches.ok);
+          assigns = subst (λ k. Assigns k (g.history dk) did.after) (sym engine.layout) (of_success (fault_of result) (ok_fault result ok) did.reaches.ok);
           blocks = there.blocks;
           sealed = there.sealed;
           installs =
@@ -292,7 +289,7 @@ module _ {D : Type 0} (g : Ghosts D) (sized : (disk : D) → g.honest disk → l
     stands_taken = subst (λ k. StandsAs m k (found_at i.next.super true) next [] [] did_sync.after) (sym (long_stays result call)) came.stands
 
     assigns_taken : Assigns (places old) (g.history dk) did_sync.after
-    assigns_taken = ok_of (fault_of result) (ok_fault result ok) did_sync.reaches.ok
+    assigns_taken = of_success (fault_of result) (ok_fault result ok) did_sync.reaches.ok
 
     pub taken_holds : Holds g m taken
     taken_holds = record {
@@ -353,9 +350,9 @@ pub written : {D : Type 0} (g : Ghosts D) (old new : Engine D) → OnlyAsks old 
     → (n : Node) (y : State) (i k : Coming) (result : Result (Unit {0}) Refusal) → IsOk result → new.halted ≡ halted_by old.log.phase result → InstallsNext g old.layout old.checkpoint.base i k old.disk new.disk result → IsBeside old.checkpoint old.log old.block k
     → Goes g n y old new i k result → Written g n y old new i k
 written {D} g old new rest engine n y i k result ok still w b first =
-    let went = ok_of result ok w.done in
+    let went = of_success result ok w.done in
     record {
-      holds = ok_of result ok first.holds;
+      holds = of_success result ok first.holds;
       leaves = first.leaves;
       runs = still ∙ ok_runs old.log.phase result ok;
       engine = subst (λ (e : Engine D). IsEngine e.layout e.checkpoint e.log e.kept e.block) (sym rest) engine;

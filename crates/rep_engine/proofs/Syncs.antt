@@ -1,5 +1,5 @@
 -- A sync of an engine that stands for a node.
-use Rattle.std.proofs.Common.{◌≡◌, zero, suc, ℕ, ◌+◌, ◌≤◌, ◌<◌, ◌%◌, Bool, true, false, List, [], ◌∷◌, length, take, drop, map, get_or, cond, eqb, get_or-set_same, get_or-set_other, None, Some, Result, Ok, Err, refl, sym, ap, subst, ◌∙◌, arith, OnOk}
+use Rattle.std.proofs.Common.{◌≡◌, zero, suc, ℕ, ◌+◌, ◌≤◌, ◌<◌, ◌%◌, Bool, true, false, List, [], ◌∷◌, length, take, drop, map, get_or, cond, eqb, get_or-set_same, get_or-set_other, None, Some, Result, refl, sym, ap, subst, ◌∙◌, arith}
 use Rattle.std.specs.Prelude.{is_some, slice_set, IsOk}
 use Rattle.std.proofs.lemmas.Bool.{eqb-true}
 use Rattle.std.proofs.lemmas.Bool.Decides.{nat_tests}
@@ -13,6 +13,7 @@ use Rattle.rep_types.specs.declared.verdict.Verdict.TheVariants.{Commit}
 use Rattle.rep_types.specs.declared.value.Write.{Write}
 use Rattle.rep_types.specs.Settings.{Setting}
 use Rattle.rep_types.specs.Replies.{reply_of}
+use Rattle.rep_types.proofs.Choices.{of_success}
 use Rattle.rep_disk.specs.declared.disk.Disk.{Ghosts}
 use Rattle.rep_disk.specs.History.{stable, IsImage}
 use Rattle.rep_disk.specs.declared.disk.DiskFault.{DiskFault as Fault}
@@ -89,10 +90,6 @@ versions_left law c base past items before after at later versions false is same
     (subst (λ i. AreVersionsOf i (map effect_of items) after) (omega arith) (subst (AreVersionsOf base (map effect_of items)) (sym same) versions))
 
 -- ---- how a sync comes out
-
-ok_of : {T E P : Type 0} (result : Result T E) → IsOk result → OnOk result P → P
-ok_of (Ok x) ok h = h
-ok_of (Err e) ok h = absurd cc
 
 -- A sync of an engine that runs, and what it leaves.
 pub record IsSynced {D : Type 0} (g : Ghosts D) (old new : Engine D) (result : Result (List Reply) Refusal) (answer : Result (Unit {0}) Fault) : Type 0 where
@@ -247,7 +244,7 @@ module _ {D : Type 0} (g : Ghosts D) (sized : (disk : D) → g.honest disk → l
       there_after : Standing_so g after_it new
       there_after = record {
         states = settled.after;
-        assigns = subst (λ (k : Layout). Assigns k (g.history new.disk) settled.after) (sym (h.layout ∙ h.engine.layout)) (ok_of answer ok settled.reaches.ok);
+        assigns = subst (λ (k : Layout). Assigns k (g.history new.disk) settled.after) (sym (h.layout ∙ h.engine.layout)) (of_success answer ok settled.reaches.ok);
         blocks = held.0;
         sealed = held.1;
         stands = subst (λ k. StandsAs after_it k new.checkpoint new.log held.0 held.1 settled.after) (sym size_stays) held.2;
@@ -270,6 +267,6 @@ module _ {D : Type 0} (g : Ghosts D) (sized : (disk : D) → g.honest disk → l
           node = is_node;
           runs = λ still. there_after;
           images = fronts_of law after_it (g.history new.disk) (length (stable (g.history old.disk))) new.checkpoint new.log held.0 held.1 settled.after is_node held.2 size_stays
-              (λ image here. subst (λ (p : Setting). Allowed (layout_of p) settled.after (reading_of (layout_of p) image)) (sym on.params) (reads (places old) (g.history new.disk) settled.after image (ok_of answer ok settled.reaches.ok) here));
+              (λ image here. subst (λ (p : Setting). Allowed (layout_of p) settled.after (reading_of (layout_of p) image)) (sym on.params) (reads (places old) (g.history new.disk) settled.after image (of_success answer ok settled.reaches.ok) here));
         },
       )

@@ -1,4 +1,3 @@
-pub mod Digits
 pub mod Committing
 pub mod Deliveries
 pub mod Feeds

@@ -27,7 +27,7 @@ fn put_text(lines: &mut ArrayVec<u8, ROOM>, text: &[u8])
 }
 
 /// Puts the number in decimal behind the lines.
-#[tactic(auto, using(crate::proofs::Digits::decimal_fits))]
+#[tactic(auto, using(rep_types::proofs::Lists::decimal_fits))]
 fn put_number(lines: &mut ArrayVec<u8, ROOM>, number: u64)
     requires { length lines.old.items + 20 ≤ 5952 }
     ensures text { lines.new.items ≡ lines.old.items ++ decimal number }

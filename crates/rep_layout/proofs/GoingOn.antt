@@ -1,6 +1,6 @@
 -- Windows that can be written go on as windows that can.
 use Rattle.std.proofs.Common.{◌≡◌, ℕ, suc, ◌+◌, ◌-◌, ◌<◌, ◌≤◌, Bool, true, false, nat_le, max, List, [], ◌∷◌, ◌++◌, length, map, filter, None, All, inl, inr, refl, sym, ap, subst, ◌∙◌, append-nil, arith}
-use Rattle.std.specs.Prelude.{if◌then◌else◌, not, nat_lt, ◌&&◌}
+use Rattle.std.specs.Prelude.{if◌then◌else◌, not, nat_lt}
 use Rattle.std.specs.List.{list_all, AllByRecursion}
 use Rattle.std.specs.List.Sorted.{IsStrictlyIncreasing}
 use Rattle.std.proofs.lemmas.Bool.{cond_both, leb-true, cases_lt}
@@ -23,6 +23,7 @@ use Rattle.rep_types.specs.Reaches.{resized}
 use Rattle.rep_types.specs.Order.{recent, judge, is_commit, in_schema, conflict_with, greatest, seqnos_against, entry_in, judged_next, window_after}
 use Rattle.rep_layout.specs.Windows.{IsEntry, IsWindowAt, seqno_of}
 use Rattle.rep_types.specs.Items.{IsWithin}
+use Rattle.rep_types.proofs.Choices.{and_right}
 use Rattle.rep_layout.specs.GoingOn.{WindowsGoOn}
 
 -- ---- seqnos that ascend
@@ -116,12 +117,8 @@ commits_inside : (p : Setting) (position : ℕ) (v : Kept) (w : Transaction) →
 commits_inside p position v w e =
     passes (nat_le (position + 1) w.last_seen) (in_schema p w) (nat_lt (w.last_seen + 1) v.floor) (conflict_with (greatest (seqnos_against w v.entries))) e
 
-both_right : (a b : Bool) → (a && b) ≡ true → b ≡ true
-both_right true b e = e
-both_right false b e = absurd cc
-
 writes_inside : (p : Setting) (w : Transaction) → in_schema p w ≡ true → list_all (has_row p.rows) (written w) ≡ true
-writes_inside p w e = both_right (list_all (has_row p.rows) w.reads) (list_all (has_row p.rows) (written w)) (sym (list_all-append (has_row p.rows) w.reads (written w)) ∙ e)
+writes_inside p w e = and_right (list_all (has_row p.rows) w.reads) (list_all (has_row p.rows) (written w)) (sym (list_all-append (has_row p.rows) w.reads (written w)) ∙ e)
 
 -- the entry of the next write set, where it commits
 abbrev own : ℕ → Transaction → Entry

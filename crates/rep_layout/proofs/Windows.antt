@@ -1,6 +1,6 @@
 -- What is read as a window's body is spelled so, and what is spelled so is read.
 use Rattle.std.proofs.Common.{◌≡◌, ℕ, zero, suc, ◌-◌, ◌^◌, ◌<◌, ◌≤◌, true, List, [], ◌∷◌, ◌++◌, length, map, Option, Some, None, refl, sym, ap, subst, ◌∙◌, append_assoc, arith, length-append}
-use Rattle.std.specs.Prelude.{is_none, slice_index, max, ◌+◌}
+use Rattle.std.specs.Prelude.{is_none, max, ◌+◌}
 use Rattle.std.specs.List.{list_all, AllByRecursion}
 use Rattle.std.specs.List.Sorted.{IsStrictlyIncreasing}
 use Rattle.std.proofs.lemmas.Bool.Decides.{nat_tests}
@@ -10,6 +10,7 @@ use Rattle.rep_types.specs.Entries.{Entry}
 use Rattle.rep_types.specs.declared.reach.Reach.{Reach}
 use Rattle.rep_types.specs.Windows.{Window as Kept, is_window_size}
 use Rattle.rep_types.specs.Settings.{Setting, is_setting, has_row}
+use Rattle.rep_types.proofs.Lists.{below_one_of}
 use Rattle.rep_forms.specs.Forms.{zeros, are_blank, AreMany, TakesFront}
 use Rattle.rep_forms.specs.FormLaws.{length_number, length_zeros, run_short, blank_is, zeros_blank}
 use Rattle.rep_forms.specs.Keys.{KeyFits}
@@ -120,15 +121,9 @@ tests_of_window p format number position v r is h =
 
 -- ---- what is spelled
 
--- a row of a schema fits
-row_fits : (rows : List ℕ) (table row : ℕ) → AllByRecursion (λ (n : ℕ). n < 2 ^ 32) rows → row < slice_index rows table → (table < length rows) × (row < 2 ^ 32)
-row_fits [] table row h lt = grind arith
-row_fits (n ∷ rows) zero row h lt = grind arith
-row_fits (n ∷ rows) (suc table) row h lt = grind (arith, row_fits rows table row h.1)
-
 keys_fit : (rows : List ℕ) (keys : List Key) → AllByRecursion (λ (n : ℕ). n < 2 ^ 32) rows → length rows ≤ 8 → list_all (has_row rows) keys ≡ true → AllByRecursion KeyFits keys
 keys_fit rows [] fit few h = tt
-keys_fit rows (key ∷ keys) fit few h = (grind (arith, nat_tests, row_fits rows key.table key.row fit), keys_fit rows keys fit few (grind (arith, nat_tests)))
+keys_fit rows (key ∷ keys) fit few h = (grind (arith, nat_tests, below_one_of rows key.table key.row fit), keys_fit rows keys fit few (grind (arith, nat_tests)))
 
 -- so do entries of a window
 entries_fit : (p : Setting) (lowest position : ℕ) (es : List Entry) → is_setting p ≡ true → position < 2 ^ 64 → AllByRecursion (IsEntry p lowest position) es → AllByRecursion EntryFits es

@@ -32,10 +32,6 @@ use Rattle.rep_node.specs.Keeping.{AtDesk}
 use Rattle.rep_node.proofs.Desks.{desk_moved}
 use Rattle.rep_node.specs.Reading.{EngineRefuses, IsRowAt, IsRowOf, RefusesAsked}
 
-pub none_of : {A : Type 0} (o : Option A) → is_some o ≡ false → o ≡ None
-none_of None is = refl
-none_of (Some x) is = absurd (let never : true ≡ false = is in cc)
-
 -- an answer that is this refusal
 pub only_err : {T : Type 0} (P : T → Type 0) (r : Result T Refusal) (e : Refusal) → r ≡ Err e → IfOk r P
 only_err P r e is = subst (λ (z : Result _ Refusal). IfOk z P) (sym is) tt

@@ -1,11 +1,12 @@
 -- A node at its start: what a quiet replica was taken apart into may lie at home in the three stations.
-use Rattle.std.proofs.Common.{◌≡◌, ℕ, zero, suc, ◌+◌, ◌-◌, ◌<◌, ◌≤◌, ◌||◌, Bool, true, false, Option, Some, None, List, [], ◌∷◌, ◌++◌, length, ap, sym, refl, ◌∙◌, subst, arith}
+use Rattle.std.proofs.Common.{◌≡◌, ℕ, zero, suc, ◌+◌, ◌-◌, ◌<◌, ◌≤◌, ◌||◌, Bool, false, Some, None, List, [], ◌∷◌, ◌++◌, length, ap, sym, refl, ◌∙◌, subst, arith}
 use Rattle.std.specs.Prelude.{All, IsFalse, is_some, slice_get}
 use Rattle.std.proofs.lemmas.Option.{same_Some}
 use Rattle.uuid.specs.Parts.{is_nil_bytes}
 use Rattle.rep_types.specs.declared.judged.Judged.{Judged}
 use Rattle.rep_types.specs.declared.limits.TheConstants.{MAX_SEQNO}
 use Rattle.rep_types.specs.Settings.{Setting}
+use Rattle.rep_types.proofs.Choices.{neither_some}
 use Rattle.rep_disk.specs.declared.disk.Disk.{Ghosts}
 use Rattle.rep_cert.specs.Holdings.{Holdings}
 use Rattle.rep_engine.specs.Engines.{Engine, durable_of, facts_of}
@@ -29,15 +30,9 @@ use Rattle.rep_node.specs.Reading.{AreParams}
 use Rattle.rep_node.proofs.Standing.{of_the_start}
 use Rattle.rep_node.specs.Seats.{Rests}
 
--- it wasn't stopped from outside, and its device has not failed
-runs : {A : Type 0} (stopped : Bool) (halted : Option A) → stopped || is_some halted ≡ false → (stopped ≡ false) × (halted ≡ None)
-runs true halted is = absurd (let never : true ≡ false = is in cc)
-runs false None is = (refl, refl)
-runs false (Some x) is = absurd (let never : true ≡ false = is in cc)
-
 module _ {D : Type 0} (g : Ghosts D) where
   pub is_running : (r : Replica D) (stopped : Bool) → stopped ≡ (r.stopped || is_some r.engine.halted) → stopped ≡ false → IsRunning r
-  is_running r stopped is running = let both = runs r.stopped r.engine.halted (sym is ∙ running) in record { inside = both.0; device = both.1 }
+  is_running r stopped is running = let both = neither_some r.stopped r.engine.halted (sym is ∙ running) in record { inside = both.0; device = both.1 }
 
   -- ---- a replica that is put together from the same parts
 

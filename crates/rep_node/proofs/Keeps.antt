@@ -1,6 +1,7 @@
 -- What a keeper finds at the engine, and what it says.
 use Rattle.std.proofs.Common.{◌≡◌, ℕ, ◌+◌, ◌-◌, ◌≤◌, List, length, take, Result, Ok, Err, OnOk, IfOk, IfErr, refl, sym, ap, subst, ◌∙◌, length-append, arith}
-use Rattle.std.proofs.lemmas.List.{length-map, take-append-le}
+use Rattle.std.proofs.lemmas.List.{length-map, take-append-le, take-map}
+use Rattle.std.proofs.Math.Seq.{take-append_seam}
 use Rattle.rep_types.specs.declared.judged.Judged.{Judged}
 use Rattle.rep_types.specs.declared.refusal.Refusal.{Refusal}
 use Rattle.rep_disk.specs.declared.disk.Disk.{Ghosts}
@@ -15,7 +16,6 @@ use Rattle.rep_node.specs.Publishing.{shown, shown_of}
 use Rattle.rep_node.specs.Homes.{Start, DeskAt, IsLegal, position_of}
 use Rattle.rep_node.specs.Seats.{Rests, WentIdle}
 use Rattle.rep_node.specs.Keeping.{AtWork}
-use Rattle.rep_node.proofs.Publishes.{take_front, take_map}
 use Rattle.rep_node.proofs.Moves.{passed_went, seat_still}
 
 -- ---- answers
@@ -72,4 +72,4 @@ module _ {D : Type 0} (g : Ghosts D) where
         let durable = p.durable in
         let size : length P + length d.waiting ≡ length F = sym (length-append P d.waiting) ∙ (ap length p.shown_or_waits ∙ length-map F shown_of) in
         let many : length P ≡ k = omega (arith, durable) in
-        sym (take_front P d.waiting) ∙ ap (take (length P)) p.shown_or_waits ∙ take_map shown_of (length P) F ∙ ap (λ j. shown (take j F)) many ∙ ap shown (sym (take-append-le k F b.0 (omega (arith, many, size)))) ∙ ap (λ l. shown (take k l)) (sym b.1)
+        sym (take-append_seam P d.waiting) ∙ ap (take (length P)) p.shown_or_waits ∙ take-map shown_of (length P) F ∙ ap (λ j. shown (take j F)) many ∙ ap shown (sym (take-append-le k F b.0 (omega (arith, many, size)))) ∙ ap (λ l. shown (take k l)) (sym b.1)

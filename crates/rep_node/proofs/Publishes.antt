@@ -1,7 +1,8 @@
 -- What is published of items that come one after another, and what waits.
 use Rattle.std.proofs.Common.{◌≡◌, ◌-◌, min, ℕ, zero, suc, ◌+◌, ◌<◌, ◌≤◌, List, [], ◌∷◌, ◌++◌, length, map, take, get_or, slice_get, Some, max, Result, Ok, Err, OnOk, refl, sym, ap, subst, ◌∙◌, append_assoc, length-append, arith}
-use Rattle.std.proofs.lemmas.List.{take_more}
+use Rattle.std.proofs.lemmas.List.{take_more, take-map}
 use Rattle.std.proofs.lemmas.Option.{slice_get_within, get_or_from_slice_get}
+use Rattle.std.proofs.Math.Seq.{take-append_seam}
 use Rattle.rep_types.specs.declared.refusal.Refusal.{Refusal}
 use Rattle.rep_types.specs.declared.judged.Judged.{Judged}
 use Rattle.rep_types.specs.Settings.{Setting}
@@ -49,15 +50,6 @@ counts_ascends : (n : ℕ) (xs ys : List Pair) → Counts n (xs ++ ys) → Ascen
 counts_ascends n [] ys h = tt
 counts_ascends n (x ∷ xs) ys h = let next = h.0 in (omega (arith, next), subst (λ k. Ascends k xs) (sym h.0) (counts_ascends (n + 1) xs ys h.1))
 
-pub take_map : {A B : Type 0} (f : A → B) (k : ℕ) (xs : List A) → take k (map f xs) ≡ map f (take k xs)
-take_map f zero xs = refl
-take_map f (suc k) [] = refl
-take_map f (suc k) (x ∷ xs) = ap (λ l. f x ∷ l) (take_map f k xs)
-
-pub take_front : {A : Type 0} (xs ys : List A) → take (length xs) (xs ++ ys) ≡ xs
-take_front [] ys = refl
-take_front (x ∷ xs) ys = ap (λ l. x ∷ l) (take_front xs ys)
-
 judged_front : (p : Setting) (S : State) (k : ℕ) (js : List Judged) → AreJudgedFrom p S js → AreJudgedFrom p S (take k js)
 judged_front p S zero js h = tt
 judged_front p S (suc k) [] h = tt
@@ -71,7 +63,7 @@ pub shown_front : (c : Holding) (xs ys : List Pair) → AreShown c (xs ++ ys) �
 shown_front c xs ys h = record {
   items = take (length xs) h.items;
   legal = judged_front c.setting (start_of c) (length xs) h.items h.legal;
-  are = sym (take_front xs ys) ∙ ap (take (length xs)) h.are ∙ take_map shown_of (length xs) h.items;
+  are = sym (take-append_seam xs ys) ∙ ap (take (length xs)) h.are ∙ take-map shown_of (length xs) h.items;
 }
 
 -- ---- what is due is the front of what waits

@@ -2,7 +2,7 @@
 use Rattle.std.proofs.Common.{◌≡◌, inl, inr, ℕ, zero, suc, ◌+◌, ◌-◌, ◌<◌, ◌≤◌, Bool, true, false, ◌&&◌, if◌then◌else◌, Option, List, [], ◌∷◌, ◌++◌, length, map, take, drop, max, refl, sym, ap, subst, ◌∙◌, append_assoc, length-append, length-drop, arith}
 use Rattle.std.proofs.lemmas.List.{length-map, map-append}
 use Rattle.std.proofs.lemmas.Bool.{lt-leb}
-use Rattle.std.proofs.Math.Seq.{take-nil}
+use Rattle.std.proofs.Math.Seq.{take-nil, take-append_seam}
 use Rattle.std.proofs.lemmas.Bool.Decides.{leb_tells}
 use Rattle.rep_types.specs.declared.key.Key.{Key}
 use Rattle.rep_types.specs.declared.item.Item.{Item}
@@ -29,7 +29,6 @@ use Rattle.rep_snap.specs.Lists.{Ascends, front_of, oldest_of}
 use Rattle.rep_snap.specs.Laws.{PeeksFollowTheFold, rows_at}
 use Rattle.rep_ordered.specs.Views.{StartsWith}
 use Rattle.rep_node.specs.Publishing.{effect_of, shown}
-use Rattle.rep_node.proofs.Publishes.{take_front}
 
 -- ---- what an item is shown to have written is what it wrote
 
@@ -99,7 +98,7 @@ module _ (versions : VersionsFollowTheItems) where
       → rows_after (rows p L) (take (at - length L) (map written_of items)) key ≡ read p (L ++ items_of items) key at
   made_of p L items key at are low =
       let M = L ++ items_of items in
-      ap (λ (l : Order). rows_after (rows p l) (take (at - length L) (map written_of items)) key) (sym (take_front L (items_of items)))
+      ap (λ (l : Order). rows_after (rows p l) (take (at - length L) (map written_of items)) key) (sym (take-append_seam L (items_of items)))
       ∙ ap (λ (js : List Judged). rows_after (rows p (take (length L) M)) (take (at - length L) (map written_of js)) key) are
       ∙ versions.order p M (length L) at key low
 

@@ -1,8 +1,9 @@
 -- What a seat that has every number knows at the end.
-use Rattle.std.proofs.Common.{◌≡◌, ℕ, zero, suc, ◌+◌, ◌/◌, ◌<◌, ◌≤◌, Option, Some, None, List, [], ◌∷◌, ◌++◌, length, Bool, false, take, get_or, set, sym, refl, ap, ◌∙◌, subst, arith, get_or-set_other, get_or-set_same}
+use Rattle.std.proofs.Common.{◌≡◌, ℕ, zero, suc, ◌+◌, ◌/◌, ◌<◌, Option, Some, None, List, [], ◌∷◌, ◌++◌, length, Bool, false, take, get_or, set, sym, refl, ap, ◌∙◌, subst, arith, get_or-set_other, get_or-set_same}
 use Rattle.std.specs.Prelude.{slice_get}
 use Rattle.std.specs.Slots.Ownership.{Filled}
-use Rattle.std.proofs.lemmas.Option.{same_Some}
+use Rattle.std.proofs.lemmas.Option.{same_Some, slice_get_within}
+use Rattle.rep_types.proofs.Lists.{empty_by_length}
 use mathlib.Core.Option as maybe
 use mathlib.Core.Option.{some, some-injective, some-ne-none}
 use mathlib.Core.Logic.{dite}
@@ -17,8 +18,8 @@ use Rattle.rep_ordered.specs.Counts.{times, total, gave}
 use Rattle.rep_ordered.specs.Views.{Placed, held_at, count_of, drew, on, halted_of}
 use Rattle.rep_ordered.specs.Rule.{Figures, HoldIsRight, Kept, first_of}
 use Rattle.rep_ordered.specs.Ends.{Closed, ClosedAt}
-use Rattle.rep_ordered.proofs.Sums.{every_at, every_map, total_only, get_or_there, within_list}
-use Rattle.rep_ordered.proofs.Keeping.{no_numbers, others_idle, knows_whole}
+use Rattle.rep_ordered.proofs.Sums.{every_at, every_map, total_only, get_or_there}
+use Rattle.rep_ordered.proofs.Keeping.{others_idle, knows_whole}
 use Rattle.rep_ordered.proofs.Drawing.{RuleOf}
 
 read_both : {A : Type 0} (xs : List A) (j : ℕ) (x y : A) → slice_get xs j ≡ Some x → get_elem? xs j ≡ some y → x ≡ y
@@ -47,7 +48,7 @@ module _ {V E : Type 0} (law : List E → Type 0) (at_home : ℕ → ℕ → ℕ
       let halts : total halted_of s.views ≡ v.halted = total_only halted_of s.views id m at (λ i d apart there. (idle i d apart there).3) in let stopped = r.stopped in let spelled = r.spelled in
       let whole : f.history ≡ v.seen = knows_whole law at_home durable_of common_of k s r id m at all told_none in
       let whole_length : length f.history ≡ length v.seen = ap length whole in let low = spelled.low in let backed_up = spelled.backed_up in let covered = spelled.covered in
-      let each_one : (j : ℕ) (found : Option V) → slice_get xs j ≡ Some found → held_at j v.held ≡ 0 → ClosedAt law at_home durable_of common_of v f.durable f.common j found = (λ j found is free. let inside = within_list xs j found is in let w : ℕ = get_or s.words (j + 2) 0 in let long : length s.words ≡ length ws = ap length as_words in
+      let each_one : (j : ℕ) (found : Option V) → slice_get xs j ≡ Some found → held_at j v.held ≡ 0 → ClosedAt law at_home durable_of common_of v f.durable f.common j found = (λ j found is free. let inside = slice_get_within xs j found is in let w : ℕ = get_or s.words (j + 2) 0 in let long : length s.words ≡ length ws = ap length as_words in
       let there : get_elem? s.words (j + 2) ≡ some w = get_or_there s.words (j + 2) (omega arith) in let here = r.each_station j w there in
       let only : total (on j) s.views ≡ on j m = total_only (on j) s.views id m at (λ i d apart at_d. ap (held_at j) (idle i d apart at_d).2) in let counts = here.counts in
       let h = here.home (omega arith) in let begun = here.begun in let within = here.within in let gone = here.gone in record {
@@ -77,7 +78,7 @@ module _ {V E : Type 0} (law : List E → Type 0) (at_home : ℕ → ℕ → ℕ
         covered = omega arith;
         sees = record { legal = subst law whole r.lawful; placed = subst (λ (z : ℕ × List E). Placed z.0 z.1 v.own v.joined) (λ i. (sym starts i, whole i)) mine.placed };
         each = each_one;
-        numbers = λ x. let d = dealt.drawn x in let t : total (drew x) s.views ≡ times x v.own = total_only (drew x) s.views id m at (λ i u apart there. let q = idle i u apart there in let e = q.1 in let n : u.view.own ≡ [] = no_numbers u.view.own (omega arith) in ap (times x) n) in
+        numbers = λ x. let d = dealt.drawn x in let t : total (drew x) s.views ≡ times x v.own = total_only (drew x) s.views id m at (λ i u apart there. let q = idle i u apart there in let e = q.1 in let n : u.view.own ≡ [] = empty_by_length u.view.own (omega arith) in ap (times x) n) in
             let next : f.next ≡ v.start + length v.own = omega arith in let start : k.start ≡ v.start = omega arith in omega arith;
       }
 
@@ -94,12 +95,6 @@ take_next {A = A} xs i x e = go xs i e ∙ (let up : suc i ≡ i + 1 = omega ari
     go [] i e = absurd (some-ne-none x (sym e))
     go (y ∷ ys) zero e = λ k. sym (some-injective y x e) k ∷ []
     go (y ∷ ys) (suc i) e = ap (λ l. y ∷ l) (go ys i e)
-
-pub take_whole : {A : Type 0} (xs : List A) (n : ℕ) → length xs ≤ n → take n xs ≡ xs
-take_whole [] zero l = refl
-take_whole [] (suc n) l = refl
-take_whole (x ∷ xs) zero l = absurd (omega arith)
-take_whole (x ∷ xs) (suc n) l = ap (λ z. x ∷ z) (take_whole xs n (omega arith))
 
 -- one more slot was taken
 pub emptied : (filled filled' : List Bool) (i n n' : ℕ) → filled' ≡ set filled i false → n' ≡ n → n ≡ length filled → i < n → Filled filled i n → ((k : ℕ) → k < i → get_or filled k false ≡ false)

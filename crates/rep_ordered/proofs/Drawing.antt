@@ -1,5 +1,6 @@
 -- The steps on the first two words, and loads.
 use Rattle.std.proofs.Common.{◌≡◌, ◌-◌, ℕ, ◌+◌, ◌*◌, ◌/◌, ◌%◌, ◌^◌, ◌<◌, ◌≤◌, max, Option, List, [], ◌∷◌, ◌++◌, length, get_or, set, bit_or, sym, refl, ap, ◌∙◌, subst, arith, length-append, length-set}
+use Rattle.std.proofs.lemmas.List.{append-nil}
 use mathlib.Core.Option.{some, none}
 use mathlib.Core.Logic.{dite}
 use native.Mathlib.Decide.{ℕ_discrete}
@@ -18,7 +19,7 @@ use Rattle.rep_ordered.specs.Rule.{Figures, Spelled, Knows, Kept, first_of}
 use Rattle.rep_ordered.specs.Steps.{Learns, claimed, looked, fronted, raised, stopped}
 use Rattle.rep_ordered.proofs.Shapes.{Moment, Mine}
 use Rattle.rep_ordered.proofs.Sums.{total_at, total_snoc, every_map, get_or_is, below_length}
-use Rattle.rep_ordered.proofs.Owning.{append_nil, placed_drawn}
+use Rattle.rep_ordered.proofs.Owning.{placed_drawn}
 use Rattle.rep_ordered.proofs.Keeping.{seen_whole, knows_me, knows_numbers, knows_still, knows_on, quiet, knows_whole, knows_halt}
 
 pub halted_word : (durable stop : ℕ) → durable < 2 ^ 63 → stop ≤ 1 → bit_or (durable + 2 ^ 63 * stop) (2 ^ 63) ≡ durable + 2 ^ 63 * 1
@@ -98,7 +99,7 @@ module _ {V E : Type 0} (law : List E → Type 0) (at_home : ℕ → ℕ → ℕ
               starts = still.starts;
               wholes = still.wholes;
               firsts = still.firsts;
-              begins = ([], sym (append_nil f.history));
+              begins = ([], sym (append-nil f.history));
               told = (f.history, refl);
               lasts = omega arith;
               stops = less;

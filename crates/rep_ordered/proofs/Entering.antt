@@ -1,5 +1,6 @@
 -- The steps on a station's word: entering it, and leaving it in one of three ways.
 use Rattle.std.proofs.Common.{◌≡◌, ◌≢◌, ℕ, ◌+◌, ◌-◌, ◌*◌, ◌/◌, ◌%◌, ◌<◌, ◌≤◌, eqb, ◌⊎◌, Option, Some, List, [], ◌∷◌, ◌++◌, get_or, set, inl, inr, ⊎_elim, sym, refl, ap, ◌∙◌, subst, arith, length-set, eq-eqb, ne_eqb, if◌then◌else◌}
+use Rattle.std.proofs.lemmas.List.{append-nil}
 use mathlib.Core.Option as maybe
 use mathlib.Core.Option.{some, none}
 use mathlib.Core.Logic.{dite}
@@ -19,15 +20,14 @@ use Rattle.rep_ordered.specs.Rule.{Figures, Knows, Kept, first_of}
 use Rattle.rep_ordered.specs.Steps.{Entered, tried}
 use Rattle.rep_ordered.proofs.Shapes.{Moment, Mine}
 use Rattle.rep_ordered.proofs.Sums.{total_at, every_away, get_or_there, below_length, reached_more, backed_here, backed_else, covered_after, common_here, common_else}
-use Rattle.rep_ordered.proofs.Owning.{append_nil}
 use Rattle.rep_ordered.proofs.Keeping.{seen_whole, knows_me}
 use Rattle.rep_ordered.proofs.Moving.{after, gone_on, moved}
 use Rattle.rep_ordered.proofs.Drawing.{RuleOf, as_first}
 
 pub begins_more : {E : Type 0} (j : ℕ) (history more front : List E) → StartsWith history front → (j ≡ 0 → front ≡ history) → (j ≢ 0 → more ≡ []) → StartsWith (history ++ more) (front ++ more)
 begins_more j history more front begins same empty = dite (ℕ_discrete j 0)
-    (λ z. ([], ap (λ l. l ++ more) (sym (same z)) ∙ sym (append_nil (front ++ more))))
-    (λ nz. let e = empty nz in (begins.0, ap (λ l. history ++ l) e ∙ (append_nil history ∙ (begins.1 ∙ ap (λ l. l ++ begins.0) (sym (append_nil front) ∙ ap (λ l. front ++ l) (sym e))))))
+    (λ z. ([], ap (λ l. l ++ more) (sym (same z)) ∙ sym (append-nil (front ++ more))))
+    (λ nz. let e = empty nz in (begins.0, ap (λ l. history ++ l) e ∙ (append-nil history ∙ (begins.1 ∙ ap (λ l. l ++ begins.0) (sym (append-nil front) ∙ ap (λ l. front ++ l) (sym e))))))
 
 pub risen_up : (j d low high : ℕ) → low ≤ high → backed_after j d low ≤ backed_after j d high
 risen_up j d low high up = dite (ℕ_discrete j 1)
@@ -61,7 +61,7 @@ module _ {V E : Type 0} (law : List E → Type 0) (at_home : ℕ → ℕ → ℕ
       → (j ≡ 1 → f.backed ≤ durable_of x) → (0 < names j → common_of x ≡ f.common)
       → on j m ≡ 0 → Lives m.view → Knows k f words homes m
       → Knows k (after f [] (backed_after j (durable_of x) f.backed) f.common) (set words (j + 2) y) (set homes j none) (untold (entering f j n y x m.view))
-  knows_entered k f words homes m j n y x was same_turn kind drawn risen same apart lives known = let v : View V E = m.view in let d : ℕ = durable_of x in let whole = known.wholes in let all : f.history ≡ f.history ++ [] = sym (append_nil f.history) in record {
+  knows_entered k f words homes m j n y x was same_turn kind drawn risen same apart lives known = let v : View V E = m.view in let d : ℕ = durable_of x in let whole = known.wholes in let all : f.history ≡ f.history ++ [] = sym (append-nil f.history) in record {
     starts = known.starts;
     wholes = known.wholes;
     firsts = known.firsts;
@@ -155,13 +155,13 @@ module _ {V E : Type 0} (law : List E → Type 0) (at_home : ℕ → ℕ → ℕ
       let within = here.within in let whole = known.wholes in
       let kept : Rule k record { words = set s.words (j + 2) new; homes = set s.homes j none; views = set s.views id m' } =
       moved law at_home durable_of common_of grows k s r id m m' j (4 * n) new [] e' f.common (set s.homes j none) at was (omega arith) (omega arith) (omega arith) (λ _. omega arith) (λ _. refl) (λ some_more. absurd (omega arith))
-      (subst law (sym (append_nil f.history)) r.lawful)
+      (subst law (sym (append-nil f.history)) r.lawful)
       (risen_above j d f.backed h.backed) (backed_else j d f.backed)
       (covered_after j d f.backed f.common (λ one. let a = h.covers one in let b = h.common (omega arith) in omega arith) sp.covered)
       (omega arith) (inl refl)
       (λ i apart. set_else s.homes j i none apart) (length-set s.homes j none) refl refl (λ i apart. omega arith) (omega arith) (omega arith) (omega arith) (omega arith) (λ none_held. absurd (omega arith))
       (knows_entered k f s.words s.homes m j n new x was turn new_kinds (λ ticket. drawn (⊎_elim (λ (e : kind ≡ 1). e) (λ (e : kind ≡ 2). absurd {A = kind ≡ 1} (omega arith)) kinds)) h.backed h.common alone lives known)
-      (knows_me k (after f [] e' f.common) s.views id m' (below_length s.views id m at) (λ some_number. lives (omega arith)) (sym (append_nil f.history))) in (
+      (knows_me k (after f [] e' f.common) s.views id m' (below_length s.views id m at) (λ some_number. lives (omega arith)) (sym (append-nil f.history))) in (
         m',
         takes j (Some x),
         h.there,

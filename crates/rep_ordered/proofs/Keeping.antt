@@ -1,5 +1,7 @@
 -- A step keeps the rule: the frames, each of which builds the rule once for a kind of change.
-use Rattle.std.proofs.Common.{◌≡◌, ◌≢◌, ℕ, ◌+◌, ◌/◌, ◌<◌, ◌≤◌, Option, List, [], ◌∷◌, ◌++◌, length, set, ⊎_elim, sym, refl, ap, ◌∙◌, subst, arith, length-append, length-set}
+use Rattle.std.proofs.Common.{◌≡◌, ◌≢◌, ℕ, ◌+◌, ◌/◌, ◌<◌, ◌≤◌, Option, List, [], ◌∷◌, ◌++◌, length, set, ⊎_elim, sym, ap, ◌∙◌, subst, arith, length-append, length-set}
+use Rattle.std.proofs.lemmas.List.{append-nil}
+use Rattle.rep_types.proofs.Lists.{empty_by_length}
 use mathlib.Core.Option as maybe
 use mathlib.Core.Option.{some}
 use mathlib.Core.Logic.{dite}
@@ -16,17 +18,12 @@ use Rattle.rep_ordered.specs.Views.{Every, HasAll, StartsWith, held_at, word_at,
 use Rattle.rep_ordered.specs.Rule.{Figures, Spelled, Dealt, HoldIsRight, Knows, Known, Station, Kept}
 use Rattle.rep_ordered.proofs.Shapes.{Moment, Homes}
 use Rattle.rep_ordered.proofs.Sums.{total_at, total_set, total_two, total_only, every_at, every_map, below_length}
-use Rattle.rep_ordered.proofs.Owning.{append_nil}
-
-pub no_numbers : {E : Type 0} (held : List E) → length held ≡ 0 → held ≡ []
-no_numbers [] e = refl
-no_numbers (x ∷ xs) e = absurd (omega arith)
 
 pub no_longer : {A : Type 0} (xs front : List A) → StartsWith xs front → length xs ≤ length front → xs ≡ front
 no_longer xs front h l = go h.0 h.1 (let e : length xs ≡ length (front ++ h.0) = ap length h.1 in omega (arith, length-append front h.0))
   where
     go : {A : Type 0} {xs front : List A} (rest : List A) → xs ≡ front ++ rest → length rest ≡ 0 → xs ≡ front
-    go {A} {xs} {front} [] e none_left = e ∙ append_nil front
+    go {A} {xs} {front} [] e none_left = e ∙ append-nil front
     go (x ∷ rest) e none_left = absurd (omega arith)
 
 -- who holds station 0 has seen the whole history
@@ -146,7 +143,7 @@ module _ {V E : Type 0} (law : List E → Type 0) (at_home : ℕ → ℕ → ℕ
       let a = total_two allowance_of s.views id i v d (λ e. apart (sym e)) at there in let b = total_two count_of s.views id i v d (λ e. apart (sym e)) at there in
       let idle : d.view.allowance + length d.view.own ≡ 0 = omega arith in dite (ℕ_discrete k.whole 0)
       (λ z. let one_seat = r.lone z in let p = below_length s.views id v at in let q = below_length s.views i d there in absurd (apart (omega arith)))
-      (λ nz. let some_number : 0 < k.whole = omega arith in (some_number, idle, no_numbers d.view.held (dite (ℕ_discrete (length d.view.held) 0) (λ e. e) (λ ne. let l = known.lives (omega arith) some_number in absurd (omega arith))), known.idle some_number idle))
+      (λ nz. let some_number : 0 < k.whole = omega arith in (some_number, idle, empty_by_length d.view.held (dite (ℕ_discrete (length d.view.held) 0) (λ e. e) (λ ne. let l = known.lives (omega arith) some_number in absurd (omega arith))), known.idle some_number idle))
 
   -- a seat that has every number has seen the whole history
   pub knows_whole : (k : Opening V) (s : Moment V E) (r : Kept law at_home durable_of common_of k s) (id : ℕ) (m : Mind V E) → get_elem? s.views id ≡ some m → m.view.allowance + length m.view.own ≡ m.view.whole → m.told ≡ [] → r.figures.history ≡ m.view.seen
@@ -187,7 +184,7 @@ module _ {V E : Type 0} (law : List E → Type 0) (at_home : ℕ → ℕ → ℕ
 
   module _ (grows : (station number given durable later : ℕ) (history more : List E) (x : V) → at_home station number given history durable x → durable ≤ later → at_home station number given (history ++ more) later x) where
     later_home : (n j g durable later : ℕ) (history : List E) (x : V) → at_home j n g history durable x → durable ≤ later → at_home j n g history later x
-    later_home n j g durable later history x h up = subst (λ l. at_home j n g l later x) (append_nil history) (grows j n g durable later history [] x h up)
+    later_home n j g durable later history x h up = subst (λ l. at_home j n g l later x) (append-nil history) (grows j n g durable later history [] x h up)
 
     -- a step that changes no station: the figures rise
     pub quiet : (k : Opening V) (s : Moment V E) (r : Kept law at_home durable_of common_of k s) (id : ℕ) (v w : Mind V E) (words' : List ℕ) (next durable stop : ℕ) → get_elem? s.views id ≡ some v

@@ -1,6 +1,7 @@
 -- The steps by which a seat leaves a station: its slot is given back, and the word is changed.
 use Rattle.std.proofs.Common.{◌≡◌, ◌≢◌, ℕ, ◌+◌, ◌-◌, ◌*◌, ◌/◌, ◌%◌, ◌^◌, ◌<◌, ◌≤◌, min, ◌⊎◌, Option, Some, None, List, [], ◌∷◌, ◌++◌, length, get_or, set, bit_or, inl, inr, ⊎_elim, sym, refl, ap, ◌∙◌, subst, arith, length-append, length-set}
 use Rattle.std.specs.Prelude.{IsSome, IsNone}
+use Rattle.std.proofs.lemmas.List.{append-nil}
 use mathlib.Core.Option as maybe
 use mathlib.Core.Option.{some, none}
 use mathlib.Core.Logic.{dite}
@@ -20,7 +21,7 @@ use Rattle.rep_ordered.specs.Rule.{Covers, Figures, Gone, HoldIsRight, Knows, Ke
 use Rattle.rep_ordered.specs.Steps.{abandons, left}
 use Rattle.rep_ordered.proofs.Shapes.{Moment, Mine}
 use Rattle.rep_ordered.proofs.Sums.{every_append, every_map, total_at, every_away, every_at, every_except, held_here, held_else, get_or_is, below_length, reached_more, backed_here, backed_else, covered_after, common_here, common_else}
-use Rattle.rep_ordered.proofs.Owning.{append_nil, entries_of, joined_with, joining_is, longer, placed_mine}
+use Rattle.rep_ordered.proofs.Owning.{entries_of, joined_with, joining_is, longer, placed_mine}
 use Rattle.rep_ordered.proofs.Keeping.{knows_me, knows_still, held_once}
 use Rattle.rep_ordered.proofs.Moving.{after, gone_on, nothing_more, moved}
 use Rattle.rep_ordered.proofs.Drawing.{RuleOf}
@@ -36,7 +37,7 @@ given_up_word w a three taken = let n : ℕ = w / 4 in let r : ℕ = w % 4 in
     let y : ℕ = bit_or w a in let p : y ≡ n * 4 + 3 = is in let b : y / 4 ≡ n = omega arith in let d : busy y ≡ 0 = omega arith in let e : gave y ≡ 1 = omega arith in (b, d, e)
 
 pub grown_is : {E : Type 0} (seen : List E) (entry : Option E) → grown seen entry ≡ seen ++ entries_of entry
-grown_is seen None = sym (append_nil seen)
+grown_is seen None = sym (append-nil seen)
 grown_is seen (Some e) = refl
 
 pub entries_one : {E : Type 0} (entry : Option E) → IsSome entry → length (entries_of entry) ≡ 1
@@ -242,7 +243,7 @@ module _ {V E : Type 0} (law : List E → Type 0) (at_home : ℕ → ℕ → ℕ
   abandons_by : (k : Opening V) (slots id : ℕ) (me : Mine V E) (j n a : ℕ) (up : ℕ → ℕ) (x : V) → j < slots → me.1 ≡ (j, Some x) ∷ rest me.1 → Departing law at_home durable_of common_of j n 1 up None x me.0.view
       → Allows (Rule k) slots id me (j + 2) up (abandons (x ∷ []) (durable_of x) (common_of x) n (step slots (j + 2) a 0 none) me)
   abandons_by k slots id me j n a up x inside carried p s r deep at small =
-      let v : View V E = me.0.view in let same : v.seen ≡ v.seen ++ [] = sym (append_nil v.seen) in
+      let v : View V E = me.0.view in let same : v.seen ≡ v.seen ++ [] = sym (append-nil v.seen) in
       let t = departs_at k slots id me j n 1 up None x (gone_at j x ∷ []) ((refl, refl, refl), tt) inside carried p s r deep at small in let b : j ≡ (j + 2) - 2 = omega arith in
       (t.0, t.1, t.2, t.3, (subst (λ (z : ℕ). t.0.view ≡ abandoned_with z (x ∷ []) (without None z n (durable_of x) (common_of x) v)) b (t.4.0 ∙ (λ i. record v { seen = sym same i; joined = v.joined; backed = backed_after j (durable_of x) v.backed; common = common_after j (common_of x) v.common; reached = reach j n ∷ v.reached; held = except j v.held; given_up = gone_at j x ∷ v.given_up })), t.4.1, t.4.2))
 

@@ -1,5 +1,6 @@
 -- A step that changes one station's word keeps the rule.
 use Rattle.std.proofs.Common.{◌≡◌, ◌≢◌, ℕ, ◌+◌, ◌/◌, ◌^◌, ◌<◌, ◌≤◌, min, ◌⊎◌, Option, List, [], ◌++◌, length, set, ⊎_elim, sym, ap, ◌∙◌, subst, arith, length-append, length-set}
+use Rattle.std.proofs.lemmas.List.{append-nil}
 use mathlib.Core.Option as maybe
 use mathlib.Core.Option.{some}
 use mathlib.Core.Logic.{dite}
@@ -15,12 +16,12 @@ use Rattle.rep_ordered.specs.Views.{Every, held_at, names, on}
 use Rattle.rep_ordered.specs.Rule.{Figures, Gone, Knows, Known, Home, Station, Kept}
 use Rattle.rep_ordered.proofs.Shapes.{Moment, Homes}
 use Rattle.rep_ordered.proofs.Sums.{total_at, total_two, every_away, every_map}
-use Rattle.rep_ordered.proofs.Owning.{append_nil, longer, placed_else}
+use Rattle.rep_ordered.proofs.Owning.{longer, placed_else}
 use Rattle.rep_ordered.proofs.Keeping.{one_holder, rebuilt}
 
 module _ {E : Type 0} where
   pub nothing_more : (history more : List E) → more ≡ [] → history ++ more ≡ history
-  nothing_more history more none = ap (λ l. history ++ l) none ∙ append_nil history
+  nothing_more history more none = ap (λ l. history ++ l) none ∙ append-nil history
 
   -- the figures after the station j was left: the history has more entries, and the numbers that values name may be higher
   abbrev pub after : Figures E → List E → ℕ → ℕ → Figures E

@@ -8,10 +8,6 @@ use Rattle.rep_ordered.specs.Views.{StartsWith, OwnEntry, Placed, joined_at, joi
 use Rattle.rep_ordered.specs.Rule.{Figures, Knows, first_of}
 use Rattle.rep_ordered.proofs.Sums.{total_append, total_snoc, one_equal, every_map, every_append}
 
-pub append_nil : {A : Type 0} (l : List A) → l ++ [] ≡ l
-append_nil [] = refl
-append_nil (e ∷ es) = ap (λ z. e ∷ z) (append_nil es)
-
 module _ {E : Type 0} where
   -- what joins the history, as a list
   abbrev pub entries_of : Option E → List E

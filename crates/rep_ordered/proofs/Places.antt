@@ -1,5 +1,6 @@
 -- What holds of a seat between two calls.
 use Rattle.std.proofs.Common.{◌≡◌, ℕ, zero, suc, ◌+◌, ◌*◌, ◌^◌, ◌<◌, ◌≤◌, Option, Some, None, List, [], ◌∷◌, ◌++◌, length, map, sym, refl, ap, ◌∙◌, subst, arith, length-append, append_assoc}
+use Rattle.std.proofs.lemmas.List.{append-nil}
 use Rattle.atomic_table.specs.Table.{Me}
 use Rattle.rep_ordered.specs.declared.view.Hold.{Hold}
 use Rattle.rep_ordered.specs.declared.view.Mind.{Mind}
@@ -10,7 +11,6 @@ use Rattle.rep_ordered.specs.Steps.{Learns, Entered, Plain, Apart}
 use Rattle.atomic_table.specs.Table.{rest}
 use Rattle.rep_ordered.specs.Seats.{empty_slot, IsSeated, Place}
 use Rattle.rep_ordered.proofs.Sums.{total_append, total_snoc, one_equal, every_except}
-use Rattle.rep_ordered.proofs.Owning.{append_nil}
 
 -- each of the numbers is at most 2 ^ 60
 abbrev pub Small : List ℕ → Type 0
@@ -23,7 +23,7 @@ pub later : {V E : Type 0} (law : List E → Type 0) (told : List E) (v w : View
 later law told v w learns = record { same = learns.same; seen = learns.seen; still = learns.still; durable = learns.durable; halted = learns.halted; stays = learns.stays }
 
 pub later_same : {V E : Type 0} (v : View V E) → Later v v
-later_same v = record { same = refl; seen = ([], sym (append_nil v.seen)); still = λ _. refl; durable = omega arith; halted = omega arith; stays = λ _. refl }
+later_same v = record { same = refl; seen = ([], sym (append-nil v.seen)); still = λ _. refl; durable = omega arith; halted = omega arith; stays = λ _. refl }
 
 begins_on : {A : Type 0} (a b c : List A) → StartsWith b a → StartsWith c b → StartsWith c a
 begins_on a b c p q = (p.0 ++ q.0, q.1 ∙ (ap (λ l. l ++ q.0) p.1 ∙ append_assoc a p.0 q.0))

@@ -1,6 +1,5 @@
 -- Sums over lists, and lists read by `get_elem?`.
-use Rattle.std.proofs.Common.{◌≡◌, ◌≢◌, ℕ, zero, suc, ◌+◌, ◌^◌, ◌<◌, ◌≤◌, eqb, max, min, Some, None, List, [], ◌∷◌, ◌++◌, length, get_or, set, if◌then◌else◌, sym, refl, ap, subst, arith, eq-eqb, ne_eqb}
-use Rattle.std.specs.Prelude.{slice_get}
+use Rattle.std.proofs.Common.{◌≡◌, ◌≢◌, ℕ, zero, suc, ◌+◌, ◌^◌, ◌<◌, ◌≤◌, eqb, max, min, List, [], ◌∷◌, ◌++◌, length, get_or, set, if◌then◌else◌, sym, refl, ap, subst, arith, eq-eqb, ne_eqb}
 use mathlib.Core.Option.{some, some-injective, some-ne-none}
 use mathlib.Core.Logic.{dite}
 use native.Mathlib.Decide.{ℕ_discrete}
@@ -52,11 +51,6 @@ module _ {A : Type 0} where
   below_length [] i a e = absurd (some-ne-none a (sym e))
   below_length (x ∷ xs) zero a e = omega arith
   below_length (x ∷ xs) (suc i) a e = let s = below_length xs i a e in omega arith
-
-pub within_list : {A : Type 0} (xs : List A) (j : ℕ) (x : A) → slice_get xs j ≡ Some x → j < length xs
-within_list [] j x e = absurd (let d : None ≡ Some x = e in cc)
-within_list (z ∷ zs) zero x e = omega arith
-within_list (z ∷ zs) (suc j) x e = let t = within_list zs j x e in omega arith
 
 -- what holds of each hold, where the station j is not among them
 pub every_away : (P Q : Hold → Type 0) (j : ℕ) (held : List Hold) → held_at j held ≡ 0 → ((h : Hold) → h.station ≢ j → P h → Q h) → Every P held → Every Q held

@@ -1,10 +1,11 @@
 -- What is read as a page is spelled so, and what is spelled so is read.
-use Rattle.std.proofs.Common.{◌≡◌, refl, sym, ap, ◌∙◌, ℕ, List, [], ◌∷◌, ◌++◌, length, Some, arith, length-append}
+use Rattle.std.proofs.Common.{◌≡◌, refl, sym, ap, ◌∙◌, ℕ, List, [], ◌++◌, length, Some, arith, length-append}
 use Rattle.std.specs.List.{flat_map, AllByRecursion}
 use Rattle.std.proofs.lemmas.List.{append-nil}
 use Rattle.std.proofs.lemmas.Option.{same_Some}
 use Rattle.rep_types.specs.declared.key.Key.{Key}
 use Rattle.rep_types.specs.declared.limits.TheConstants.{ROWS_PER_PAGE}
+use Rattle.rep_types.proofs.Lists.{empty_by_length}
 use Rattle.rep_forms.specs.Forms.{TakesFront}
 use Rattle.rep_forms.specs.FormLaws.{length_number, length_zeros, run_size}
 use Rattle.rep_forms.specs.Rows.{RowFits, row_bytes}
@@ -43,16 +44,12 @@ rows_read {schema} {page} {bytes} {body} {rest} {rows} h there front =
 
 -- ---- what is read is spelled so
 
-none_left : (bytes : List ℕ) → length bytes ≡ 0 → bytes ≡ []
-none_left [] e = refl
-none_left (b ∷ bytes) e = absurd (omega (arith, e))
-
 module _ (schema : List ℕ) (number : ℕ) (first : Key) (head : Head) (bytes body rest : List ℕ) (rows : Rows) where
   pub page_is : TakesFront head_form bytes (Some (head, body)) → TakesFront rows_form body (Some (rows, rest)) → length rest ≡ 0 → head.number ≡ number → head.first ≡ first
       → IsFirstRow schema number first → EndWithTheTable schema number rows → IsPageBody schema (record { number = number; position = head.position; rows = rows }) bytes
   page_is front behind none n f begins past =
       let same : ◌≡◌ {A = Head} (record { number = number; first = first; position = head.position }) head = grind (arith, n, f) in
-      let all : body ≡ flat_map row_bytes rows = behind.found.1 ∙ ap (λ (bytes : List ℕ). flat_map row_bytes rows ++ bytes) (none_left rest none) ∙ append-nil (flat_map row_bytes rows) in
+      let all : body ≡ flat_map row_bytes rows = behind.found.1 ∙ ap (λ (bytes : List ℕ). flat_map row_bytes rows ++ bytes) (empty_by_length rest none) ∙ append-nil (flat_map row_bytes rows) in
       record {
         first = first;
         is = record { begins = begins; size = behind.found.0.size; past = past };

@@ -4,6 +4,7 @@ use Rattle.std.proofs.lemmas.Bool.{cases_lt}
 use Rattle.std.proofs.lemmas.Bool.Decides.{nat_tests}
 use Rattle.std.proofs.lemmas.List.{length-replicate, get_or-replicate, get_or_past}
 use Rattle.rep_types.specs.declared.refusal.Refusal.{Refusal}
+use Rattle.rep_types.proofs.Choices.{of_answer}
 use Rattle.rep_disk.specs.declared.disk.Disk.{Ghosts}
 use Rattle.rep_disk.specs.declared.disk.DiskFault.{DiskFault as Fault}
 use Rattle.rep_disk.specs.History.{History, seen, failed}
@@ -85,11 +86,6 @@ taken_as r b number slot bytes result there shown takes = record {
   };
 }
 
--- what is said of an answer that came
-if_came : {T E : Type 0} (result : Result T E) (P : Type 0) → IsOk result → IfOk result (λ _. P) → P
-if_came (Ok x) P ok h = h
-if_came (Err e) P ok h = absurd cc
-
 -- where no write has failed each place is readable
 readable : (l : Layout) (h : History) (number : ℕ) (slot : Slot) → failed h ≡ [] → IsReadable l h (Page number slot)
 readable l h number slot none = rw none (tt, tt)
@@ -99,7 +95,7 @@ pub reads :
     {D : Type 0} (g : Ghosts D) (l : Layout) (b : SuperBody) (number : ℕ) (slot : Slot) (bytes : List ℕ) (old : D) (answer : Result (Unit {0}) Fault) (result : Result PageBody Refusal)
     → state_of_page b number ≡ In slot → IsOk answer → ReadsPlace g l (Page number slot) old answer (λ _. Some bytes) → Takes b number bytes result → ReadsPage g l b number old result
 reads g l b number slot bytes old answer result there ok read takes = λ h none.
-    taken_as (reading_of l (seen (g.history old))) b number slot bytes result there (sym (if_came answer _ ok (read h (readable l (g.history old) number slot none)))) takes
+    taken_as (reading_of l (seen (g.history old))) b number slot bytes result there (sym (of_answer {P = _} answer ok (read h (readable l (g.history old) number slot none)))) takes
 
 -- a page that the bytes spell, in the slot in which the base has it
 pub spelled_at : (r : Reading) (b : SuperBody) (number : ℕ) (slot : Slot) (page : PageBody) → HasPage r b number page → state_of_page b number ≡ In slot → IsSpelled b.params.rows r number slot page

@@ -1,11 +1,7 @@
 -- What writing takes, digit by digit.
-use Rattle.std.proofs.Common.{◌≡◌, ℕ, ◌+◌, ◌^◌, ◌<◌, ◌≤◌, List, ◌++◌, length, arith, length-append, ◌∷◌, [], ◌/◌, ◌%◌, append_assoc}
+use Rattle.std.proofs.Common.{◌≡◌, ℕ, ◌+◌, ◌^◌, ◌<◌, ◌≤◌, List, ◌++◌, length, length-append, ◌∷◌, [], ◌/◌, ◌%◌, append_assoc}
 use Rattle.std.specs.Fmt.{decimal}
-use Rattle.std.proofs.lemmas.Fmt.{length-decimal-le, decimal_step}
-
--- a number of 64 bits has at most 20 digits
-pub decimal_fits : (n : ℕ) → n < 2 ^ 64 → length (decimal n) ≤ 20
-decimal_fits n small = length-decimal-le 20 n (omega arith) (omega arith) small
+use Rattle.std.proofs.lemmas.Fmt.{decimal_step}
 
 -- ten and more has one digit more than its tenth
 pub decimal_longer : (n : ℕ) → 10 ≤ n → n < 2 ^ 64 → length (decimal n) ≡ length (decimal (n / 10)) + 1

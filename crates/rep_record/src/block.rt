@@ -5,7 +5,7 @@ ghost use Rattle.rep_record.specs.Blocks.{has_room, first_seqno, run_bytes, IsBl
 
 use crate::block_reader::Head;
 use crate::limits::{BLOCK, MAX_BLOCK, MAX_RECORDS};
-use crate::record::put_record;
+use crate::record::put_spelling;
 use crate::room::Room;
 use arrayvec::ArrayVec;
 use rep_forms::{Put, put_bytes, put_zeros};
@@ -64,9 +64,10 @@ impl BlockBuilder {
         if !room.take(judged) {
             return false;
         }
-        let Some(bytes) = put_record(judged) else {
+        let mut bytes = ArrayVec::new();
+        if !put_spelling(&mut bytes, judged) {
             unreachable!();
-        };
+        }
         put_bytes(&mut self.bytes, bytes.as_slice());
         self.first = room.first();
         self.count = room.count();

@@ -1,8 +1,8 @@
 //! The line of an item.
 
-ghost use Rattle.std.specs.Prelude.{◌≡◌, IfOk, Err};
+ghost use Rattle.std.specs.Prelude.{◌≡◌, [], false, IfOk, Err};
 ghost use Rattle.std.specs.Option.{option_map};
-ghost use Rattle.rep_types.specs.Transactions.{Transaction};
+ghost use Rattle.rep_types.specs.Transactions.{Transaction, transaction};
 ghost use Rattle.rep_record.specs.Grammar.{IsItemLine};
 ghost use Rattle.rep_record.specs.Reading.{labels_in, keys_in, reads_in, writes_in, tail_in, item_form, outcome, item_outcome, item_line, limited};
 ghost use Rattle.rep_record.specs.Drafts.{Gives, drafted_reads, drafted_writes, drafted, limited_draft};
@@ -36,6 +36,20 @@ impl Model for Draft {
 }
 
 impl Draft {
+    /// A draft of nothing.
+    fn new() -> Draft
+        ensures { result ≡ (transaction 0 0 0 [] [], false) }
+    {
+        Draft {
+            source: 0,
+            trx: 0,
+            last_seen: 0,
+            reads: ArrayVec::new(),
+            writes: ArrayVec::new(),
+            has_long: false,
+        }
+    }
+
     /// The write set, or the first limit that it passes, in the line with this number.
     fn write_set(&self, number: u64) -> Result<WriteSet, Refusal>
         ensures { result ≡ limited_draft number self.now }
@@ -71,87 +85,87 @@ pub(crate) fn read_labels(words: &mut Words) -> Option<(u64, u64)>
     read_label(words.next_word()?)
 }
 
-/// The first 17 of the keys up to the word `w`.
+/// Puts the first 17 of the keys up to the word `w` into a list that has none.
 #[tactic(auto, using(crate::proofs::Kept::keys_kept))]
-fn read_keys(words: &mut Words) -> Option<ArrayVec<Key, 17>>
-    ensures { Gives (λ keys. keys.items) result words.new (option_map drafted_reads (keys_in words.old)) }
+fn read_keys(words: &mut Words, keys: &mut ArrayVec<Key, 17>) -> Option<()>
+    requires { keys.old.items ≡ [] }
+    ensures { Gives (λ _. keys.new.items) result words.new (option_map drafted_reads (keys_in words.old)) }
 {
-    let mut keys = ArrayVec::new();
     loop {
-        keep(&mut keys, read_key(words.next_word()?)?);
+        keep(keys, read_key(words.next_word()?)?);
         if words.is_next(b"w") {
-            return Some(keys);
+            return Some(());
         }
     }
 }
 
-/// The first 17 of the keys that are read.
+/// Puts the first 17 of the keys that are read into a list that has none.
 #[tactic(auto, unfolding(crate::specs::Reading::reads_in))]
-fn read_reads(words: &mut Words) -> Option<ArrayVec<Key, 17>>
-    ensures { Gives (λ keys. keys.items) result words.new (option_map drafted_reads (reads_in words.old)) }
+fn read_reads(words: &mut Words, keys: &mut ArrayVec<Key, 17>) -> Option<()>
+    requires { keys.old.items ≡ [] }
+    ensures { Gives (λ _. keys.new.items) result words.new (option_map drafted_reads (reads_in words.old)) }
 {
     if !words.skip(b"r") {
-        return Some(ArrayVec::new());
+        return Some(());
     }
-    read_keys(words)
+    read_keys(words, keys)
 }
 
-/// The first 17 of the writes, and whether a value is too long.
+/// Puts the first 17 of the writes into a list that has none, and says whether a value is too long.
 #[tactic(auto, using(crate::proofs::Kept::writes_kept), unfolding(crate::specs::Reading::writes_in))]
-fn read_writes(words: &mut Words) -> Option<(ArrayVec<Write, 17>, bool)>
-    ensures { option_map (λ writes. (writes.0.items, writes.1)) result ≡ option_map drafted_writes (writes_in words.old) }
+fn read_writes(words: &mut Words, writes: &mut ArrayVec<Write, 17>) -> Option<bool>
+    requires { writes.old.items ≡ [] }
+    ensures { option_map (λ long. (writes.new.items, long)) result ≡ option_map drafted_writes (writes_in words.old) }
 {
     if !words.skip(b"w") || words.is_empty() {
         return None;
     }
-    let mut writes = ArrayVec::new();
     let mut has_long = false;
     while let Some(word) = words.next_word() {
         let (write, is_long) = read_write(word)?;
-        keep(&mut writes, write);
+        keep(writes, write);
         has_long = has_long || is_long;
     }
-    Some((writes, has_long))
+    Some(has_long)
 }
 
-/// What a tail says.
+/// What a tail says, put into a draft without reads and writes, which so stays in its place.
 #[tactic(auto, unfolding(crate::specs::Reading::tail_in))]
-fn read_tail_draft(words: &mut Words) -> Option<Draft>
-    ensures { result ≡ option_map drafted (tail_in words.old) }
+fn read_tail_draft(words: &mut Words, draft: &mut Draft) -> Option<()>
+    requires reads { draft.old.0.reads ≡ [] }
+    requires writes { draft.old.0.writes ≡ [] }
+    ensures { option_map (λ _. draft.new) result ≡ option_map drafted (tail_in words.old) }
 {
-    let last_seen = read_number(words.next_word()?)?;
+    draft.last_seen = read_number(words.next_word()?)?;
     let (source, trx) = read_labels(words)?;
-    let reads = read_reads(words)?;
-    let (writes, has_long) = read_writes(words)?;
-    Some(Draft {
-        source,
-        trx,
-        last_seen,
-        reads,
-        writes,
-        has_long,
-    })
+    draft.source = source;
+    draft.trx = trx;
+    read_reads(words, &mut draft.reads)?;
+    draft.has_long = read_writes(words, &mut draft.writes)?;
+    Some(())
 }
 
-/// What an item's line says.
-fn read_draft(line: &[u8]) -> Option<Draft>
-    ensures { result ≡ option_map drafted (item_form line.now) }
+/// What an item's line says, put into a draft without reads and writes.
+fn read_draft(line: &[u8], draft: &mut Draft) -> Option<()>
+    requires reads { draft.old.0.reads ≡ [] }
+    requires writes { draft.old.0.writes ≡ [] }
+    ensures { option_map (λ _. draft.new) result ≡ option_map drafted (item_form line.now) }
 {
     let mut words = Words::new(line);
     if !words.skip(b"item") {
         return None;
     }
-    read_tail_draft(&mut words)
+    read_tail_draft(&mut words, draft)
 }
 
 /// The write set of which this was kept, in the line with this number; a line of which nothing was is
 /// malformed.
-fn write_set_of(draft: Option<Draft>, number: u64) -> Result<WriteSet, Refusal>
-    ensures { result ≡ outcome (limited_draft number) number draft }
+fn write_set_of(found: Option<()>, draft: &Draft, number: u64) -> Result<WriteSet, Refusal>
+    ensures { result ≡ outcome (limited_draft number) number (option_map (λ _. draft.now) found) }
 {
-    let Some(draft) = draft else {
+    if found.is_none() {
         return Err(Refusal::Malformed { at: number });
-    };
+    }
     draft.write_set(number)
 }
 
@@ -163,7 +177,9 @@ fn write_set_of(draft: Option<Draft>, number: u64) -> Result<WriteSet, Refusal>
 pub fn read_tail(mut words: Words, number: u64) -> Result<WriteSet, Refusal>
     ensures { result ≡ item_outcome number (tail_in words.entry) }
 {
-    write_set_of(read_tail_draft(&mut words), number)
+    let mut draft = Draft::new();
+    let found = read_tail_draft(&mut words, &mut draft);
+    write_set_of(found, &draft, number)
 }
 
 /// The write set that the line with this number says: `item last_seen [id source:trx]
@@ -183,5 +199,7 @@ pub fn read_item_line(line: &[u8], number: u64) -> Result<WriteSet, Refusal>
     ensures unformed { ((w : Transaction) → IsItemLine line.now w → ⊥) → result ≡ Err (Refusal.Malformed number) }
     ensures exact { result ≡ item_line number line.now }
 {
-    write_set_of(read_draft(line), number)
+    let mut draft = Draft::new();
+    let found = read_draft(line, &mut draft);
+    write_set_of(found, &draft, number)
 }

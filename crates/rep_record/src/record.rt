@@ -1,6 +1,6 @@
 //! Records as bytes.
 
-ghost use Rattle.std.specs.Prelude.{◌≡◌, ◌+◌, ◌≤◌, ◌<◌, ◌^◌, ◌∷◌, ◌++◌, ◌↔◌, ℕ, List, length, true, Ok, IfOk, IfErr, IsTrue, IsSome, IfSome, option_map};
+ghost use Rattle.std.specs.Prelude.{◌≡◌, ◌+◌, ◌≤◌, ◌<◌, ◌^◌, [], ◌∷◌, ◌++◌, ◌↔◌, ℕ, List, length, true, Ok, IfOk, IfErr, IsTrue, IsSome, IfSome, option_map};
 ghost use Rattle.std.specs.List.{AllByRecursion};
 ghost use Rattle.rep_types.specs.declared.judged.Judged.{Judged};
 ghost use Rattle.rep_types.specs.Transactions.{IsWithinLimits};
@@ -158,33 +158,44 @@ fn put_content(out: &mut Bytes, item: &Item)
     }
 }
 
-/// The bytes of a record of this item with this seqno and this verdict, whether or not they fit it.
+/// Puts the bytes of a record of this item with this seqno and this verdict, whether or not they fit it, where nothing was put yet.
 #[tactic(auto, using(rep_forms::specs::FormLaws::sizes, rep_forms::specs::FormLaws::joined))]
-fn put_item(seqno: u64, item: &Item, verdict: Verdict) -> ArrayVec<u8, MAX_RECORD>
-    ensures bytes { result.items ≡ spelled seqno item.now verdict }
-    ensures size { length result.items ≤ MAX_RECORD }
+fn put_item(out: &mut Bytes, seqno: u64, item: &Item, verdict: Verdict)
+    requires { out.old.items ≡ [] }
+    ensures bytes { out.new.items ≡ spelled seqno item.now verdict }
+    ensures size { length out.new.items ≤ MAX_RECORD }
     ensures spelled { HasSpelling item.now }
 {
-    let mut out = ArrayVec::new();
-    put_u16(&mut out, item_len(item) as u16);
-    put_labels(&mut out, &labels_of(seqno, item));
-    put_verdict(&mut out, verdict);
-    put_content(&mut out, item);
-    out
+    put_u16(out, item_len(item) as u16);
+    put_labels(out, &labels_of(seqno, item));
+    put_verdict(out, verdict);
+    put_content(out, item);
+}
+
+/// Puts the bytes of a record where nothing was put yet, and says whether that is its spelling: whether it has one.
+#[tactic(auto, using(crate::proofs::Records::suits_is, crate::proofs::Records::is_suited))]
+pub(crate) fn put_spelling(out: &mut Bytes, judged: &Judged) -> bool
+    requires { out.old.items ≡ [] }
+    ensures placed { result ≡ is_placed judged.now }
+    ensures record { result ≡ true → IsRecord judged.now }
+    ensures bytes { out.new.items ≡ record_bytes judged.now }
+    ensures size { length (record_bytes judged.now) ≤ MAX_RECORD }
+{
+    put_item(out, judged.seqno, &judged.item, judged.verdict);
+    is_placed(judged)
 }
 
 /// The bytes of a record, at most 1,229: a delivered item with its seqno and its verdict. None where
 /// it has no spelling: where its seqno is not from 1 to 2^60, a conflict is not with an item before it,
 /// or a change of the window's size has not committed.
-#[tactic(auto, using(crate::proofs::Records::suits_is, crate::proofs::Records::is_suited))]
 pub fn put_record(judged: &Judged) -> Option<ArrayVec<u8, MAX_RECORD>>
     ensures placed { IsSome result ↔ (is_placed judged.now ≡ true) }
     // What is put has a spelling, and that is it: so it is read again.
     ensures bytes { IfSome result (λ b. IsRecord judged.now × (b.items ≡ record_bytes judged.now)) }
     ensures size { length (record_bytes judged.now) ≤ MAX_RECORD }
 {
-    let out = put_item(judged.seqno, &judged.item, judged.verdict);
-    if !is_placed(judged) {
+    let mut out = ArrayVec::new();
+    if !put_spelling(&mut out, judged) {
         return None;
     }
     Some(out)

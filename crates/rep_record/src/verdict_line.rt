@@ -37,7 +37,7 @@ pub fn push_decimal(text: &mut ArrayString<64>, number: u64)
 }
 
 /// The line of the verdict on the item with this seqno.
-#[tactic(auto, using(crate::proofs::Writing::decimal_fits))]
+#[tactic(auto, using(rep_types::proofs::Lists::decimal_fits))]
 fn line_of(seqno: u64, verdict: Verdict) -> ArrayString<64>
     ensures { result.bytes ≡ verdict_line seqno verdict }
 {

@@ -1,6 +1,5 @@
 -- Calls that write nothing, one after another.
-use Rattle.std.proofs.Common.{◌≡◌, ℕ, ◌+◌, ◌<◌, ◌≤◌, ◌⊎◌, inl, inr, false, Result, Ok, Err, OnOk, ap, subst, ◌∙◌, arith}
-use Rattle.std.specs.Result.{is_err}
+use Rattle.std.proofs.Common.{◌≡◌, ℕ, ◌+◌, ◌<◌, ◌≤◌, ◌⊎◌, inl, inr, Result, Ok, ap, subst, ◌∙◌, arith}
 use Rattle.rep_types.specs.declared.refusal.Refusal.{Refusal}
 use Rattle.rep_disk.specs.declared.disk.Disk.{Ghosts}
 use Rattle.rep_disk.specs.History.{History}
@@ -15,11 +14,6 @@ use Rattle.rep_cells.specs.Readings.{reading_of}
 use Rattle.rep_pages.specs.Slots.{state_of_page}
 use Rattle.rep_recover.specs.Looking.{Looks, HasPage, HasFirstPages}
 use Rattle.rep_recover.proofs.Going.{calls}
-
--- what holds where a call succeeds, where it is no failure
-pub at_no_err : {T E : Type 0} (P : Type 0) (r : Result T E) → is_err r ≡ false → OnOk r P → P
-at_no_err P (Ok x) e h = h
-at_no_err P (Err x) e h = absurd cc
 
 module _ {D : Type 0} (g : Ghosts D) where
   -- one behind another that succeeded

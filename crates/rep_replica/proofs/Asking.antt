@@ -4,6 +4,7 @@ use Rattle.std.specs.Prelude.{◌||◌, is_some}
 use Rattle.rep_types.specs.declared.refusal.Refusal.{Refusal}
 use Rattle.rep_types.specs.declared.refusal.Refusal.TheVariants.{Stopped, DiskFault}
 use Rattle.rep_types.specs.declared.refusal.Part.{Part}
+use Rattle.rep_types.proofs.Choices.{neither_some}
 use Rattle.rep_disk.specs.declared.disk.Disk.{Ghosts}
 use Rattle.rep_disk.specs.History.{IsImage}
 use Rattle.rep_disk.specs.Leaving.{leaves_none}
@@ -87,11 +88,6 @@ asks_given_up g old new asked n holds = gave_up_by g old new asked n holds asked
 
 -- ---- what is asked for a joiner
 
-neither : {T : Type 0} (inside : Bool) (halted : Option T) → (inside || is_some halted) ≡ false → halted ≡ None
-neither true halted off = absurd (let never : true ≡ false = off in cc)
-neither false None off = refl
-neither false (Some x) off = absurd (let never : true ≡ false = off in cc)
-
 module _ {D T : Type 0} (g : Ghosts D) (part : Part) (old new : Replica D) (result : Result T Refusal) (asks : Asks g part old new result)
     (on : (n : Node) → Holds g n old → result ≢ Err DiskFault → Holds g n new) where
   -- by what came of it, where the replica ran
@@ -104,13 +100,13 @@ module _ {D T : Type 0} (g : Ghosts D) (part : Part) (old new : Replica D) (resu
   halts_either : (b : Bool) → (old.stopped || is_some old.engine.halted) ≡ b
       → (new.engine.halted ≡ old.engine.halted) ⊎ ((old.engine.halted ≡ None) × (new.engine.halted ≡ Some old.engine.log.phase))
   halts_either true stopped = inl (ap (λ (r : Replica D). r.engine.halted) (asks.stopped stopped).1)
-  halts_either false runs = halts_by result (neither old.stopped old.engine.halted runs) (asks.running runs).0
+  halts_either false runs = halts_by result ((neither_some old.stopped old.engine.halted runs).1) (asks.running runs).0
 
   -- where it is as it was, the device didn't fail
   no_fault : (b : Bool) → (old.stopped || is_some old.engine.halted) ≡ b → new.engine.halted ≡ old.engine.halted → result ≢ Err DiskFault
   no_fault true stopped same is = let never : Err Stopped ≡ Err DiskFault = sym (asks.stopped stopped).0 ∙ is in cc
   no_fault false runs same is =
-      let never : Some old.engine.log.phase ≡ None = sym (ap (halted_by old.engine.log.phase) is) ∙ sym (asks.running runs).0 ∙ same ∙ neither old.stopped old.engine.halted runs in cc
+      let never : Some old.engine.log.phase ≡ None = sym (ap (halted_by old.engine.log.phase) is) ∙ sym (asks.running runs).0 ∙ same ∙ (neither_some old.stopped old.engine.halted runs).1 in cc
 
   pub is_asked : IsAsked g old new
   is_asked = record {

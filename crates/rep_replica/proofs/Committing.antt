@@ -1,7 +1,6 @@
 -- A block that is made durable, turn by turn, with a checkpoint beside.
 use Rattle.std.proofs.Common.{◌≡◌, ℕ, ◌+◌, ◌<◌, ◌≤◌, ◌⊎◌, inl, inr, Bool, true, false, List, [], ◌∷◌, ◌++◌, append_assoc, length, map, take, drop, Option, None, Some, Result, Ok, Err, refl, sym, ap, subst, ◌∙◌, arith}
 use Rattle.std.proofs.lemmas.List.{length-append, length-map, length-take}
-use Rattle.std.proofs.lemmas.Bool.Decides.{nat_tests}
 use Rattle.std.proofs.lemmas.Option.{same_Some}
 use Rattle.std.specs.Prelude.{IfOk, MatchOption, OnOk, if◌then◌else◌, ◌==◌}
 use Rattle.rep_types.specs.declared.reply.Reply.{Reply}
@@ -9,6 +8,7 @@ use Rattle.rep_types.specs.declared.refusal.Refusal.{Refusal}
 use Rattle.rep_types.specs.declared.refusal.Refusal.TheVariants.{OutOfMemory, DiskFault, Corrupt}
 use Rattle.rep_types.specs.declared.refusal.Part.TheVariants.{Pages}
 use Rattle.rep_types.specs.Replies.{reply_of}
+use Rattle.rep_types.proofs.Lists.{empty_by_length}
 use Rattle.rep_record.specs.Fronts.{fitting}
 use Rattle.rep_disk.specs.declared.disk.Disk.{Ghosts}
 use Rattle.rep_log.specs.declared.phase.Phase.{Phase}
@@ -102,13 +102,9 @@ told_run rule (e ∷ events) [] s t run = absurd run
 told_run rule (e ∷ events) (a ∷ answers) s t run =
     omega (arith, told_step s run.0 e a run.1.1, told_run rule events answers run.0 t run.2, length-append (replies_in a) (acknowledged answers))
 
-nothing : {A : Type 0} (xs : List A) → length xs ≡ 0 → xs ≡ []
-nothing [] none = refl
-nothing (x ∷ xs) none = absurd (omega (arith, none))
-
 -- where nothing became durable there is none
 pub untold : (rule : Standing → Event → Type 0) (events : List Event) (answers : List Answer) (s t : Standing) → Runs (Allows rule) s events answers t → t.durable ≡ s.durable → acknowledged answers ≡ []
-untold rule events answers s t run same = nothing (acknowledged answers) (omega (arith, told_run rule events answers s t run, same))
+untold rule events answers s t run same = empty_by_length (acknowledged answers) (omega (arith, told_run rule events answers s t run, same))
 
 pub told_then : (answers told : List Answer) → acknowledged (answers ++ told) ≡ acknowledged answers ++ acknowledged told
 told_then [] told = refl
@@ -334,11 +330,6 @@ full_at s (Opening n) full = absurd (let never : false ≡ true = full in cc)
 
 pub full_rests : (s : Standing) → is_full s ≡ true → s.phase ≡ Resting
 full_rests s full = full_at s s.phase full
-
--- whether there is none
-pub is_nothing : {A : Type 0} (xs : List A) → (length xs == 0) ≡ true → xs ≡ []
-is_nothing [] is = refl
-is_nothing (x ∷ xs) is = absurd (grind (arith, nat_tests, is))
 
 pub is_something : {A : Type 0} (xs : List A) → (length xs == 0) ≡ false → xs ≡ [] → ⊥
 is_something xs some none = let never : true ≡ false = ap (λ (ys : List _). length ys == 0) (sym none) ∙ some in cc

@@ -1,5 +1,5 @@
 -- What a donor reads of its engine, as what it reads of the replica.
-use Rattle.std.proofs.Common.{◌≡◌, ◌≢◌, ℕ, ◌-◌, ◌≤◌, Bool, true, false, List, ◌++◌, length, take, Option, None, Some, Result, Ok, Err, refl, sym, ap, subst, ◌∙◌, arith, IfOk}
+use Rattle.std.proofs.Common.{◌≡◌, ◌≢◌, ℕ, ◌-◌, ◌≤◌, Bool, true, false, List, ◌++◌, length, take, Option, None, Some, Result, Ok, Err, sym, ap, subst, ◌∙◌, arith, IfOk}
 use Rattle.std.specs.Prelude.{◌||◌, is_some, IfSome}
 use Rattle.std.proofs.lemmas.List.{length-take-le, take-take}
 use Rattle.rep_types.specs.declared.judged.Judged.{Judged}
@@ -7,6 +7,7 @@ use Rattle.rep_types.specs.declared.refusal.Refusal.{Refusal}
 use Rattle.rep_types.specs.declared.refusal.Refusal.TheVariants.{Stopped, DiskFault}
 use Rattle.rep_types.specs.declared.refusal.Part.{Part}
 use Rattle.rep_types.specs.Order.{State}
+use Rattle.rep_types.proofs.Choices.{neither_some}
 use Rattle.rep_record.specs.Blocks.{Contents}
 use Rattle.rep_disk.specs.declared.disk.Disk.{Ghosts}
 use Rattle.rep_disk.specs.History.{History}
@@ -27,11 +28,6 @@ use Rattle.rep_replica.proofs.Widening.{running_facts}
 
 -- ---- whether it is stopped
 
-neither : {T : Type 0} (inside : Bool) (halted : Option T) → (inside || is_some halted) ≡ false → halted ≡ None
-neither true halted off = absurd (let never : true ≡ false = off in cc)
-neither false None off = refl
-neither false (Some x) off = absurd (let never : true ≡ false = off in cc)
-
 never_stopped : {T : Type 0} (inside : Bool) (halted : Option T) → inside ≡ false → halted ≡ None → (inside || is_some halted) ≡ true → ⊥
 never_stopped true halted runs none on = let never : true ≡ false = runs in cc
 never_stopped false None runs none on = let never : false ≡ true = on in cc
@@ -51,7 +47,7 @@ module _ {D T : Type 0} (g : Ghosts D) (part : Part) (within old : Replica D) (i
     same = asked.same;
     rest = ap (λ (e : Engine D). record within { engine = e }) asked.rest;
     stopped = λ on. absurd (let never : false ≡ true = sym off_within ∙ on in cc);
-    running = λ _. asked.running (neither within.stopped within.engine.halted off_within);
+    running = λ _. asked.running ((neither_some within.stopped within.engine.halted off_within).1);
   })
 
   block_same : engine.block ≡ within.engine.block

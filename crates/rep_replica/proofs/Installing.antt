@@ -1,5 +1,5 @@
 -- A snapshot that is installed beside a replica, and the node that comes of it.
-use Rattle.std.proofs.Common.{◌≡◌, ◌⊎◌, inl, inr, ℕ, zero, suc, ◌+◌, ◌-◌, ◌≤◌, Bool, true, false, List, [], ◌∷◌, ◌++◌, append-nil, length, take, drop, Option, None, Some, Result, Ok, Err, IfErr, OnErr, refl, sym, ap, subst, ◌∙◌, arith}
+use Rattle.std.proofs.Common.{◌≡◌, ◌⊎◌, inl, inr, ℕ, zero, suc, ◌+◌, ◌-◌, ◌≤◌, true, false, List, [], ◌∷◌, ◌++◌, append-nil, length, take, drop, Option, None, Some, Result, Ok, Err, IfErr, OnErr, refl, sym, ap, subst, ◌∙◌, arith}
 use Rattle.std.specs.Prelude.{◌&&◌, ◌==◌, is_some, IsOk, IsErr, OnOk, IfSome}
 use Rattle.std.specs.Result.{is_err}
 use Rattle.std.proofs.lemmas.List.{take_all, drop_all, take-append-drop}
@@ -11,6 +11,7 @@ use Rattle.rep_types.specs.declared.limits.TheConstants.{MAX_SEQNO}
 use Rattle.rep_types.specs.Settings.{Setting}
 use Rattle.rep_types.specs.Order.{State}
 use Rattle.rep_types.specs.Windows.{Window}
+use Rattle.rep_types.proofs.Choices.{and_both}
 use Rattle.rep_disk.specs.declared.disk.Disk.{Ghosts}
 use Rattle.rep_disk.specs.History.{History}
 use Rattle.rep_disk.specs.Calls.{Rises}
@@ -56,10 +57,6 @@ drop_none (suc k) = refl
 
 -- ---- a quiet replica
 
-both : (a b : Bool) → (a && b) ≡ true → (a ≡ true) × (b ≡ true)
-both true b e = (refl, e)
-both false b e = absurd (let never : false ≡ true = e in cc)
-
 empty : (js : List Judged) → (length js == 0) ≡ true → js ≡ []
 empty [] e = refl
 empty (j ∷ js) e = absurd (grind (arith, nat_tests, e))
@@ -81,7 +78,7 @@ pub record Rests {D : Type 0} (r : Replica D) : Type 0 where
 
 pub quiet_rests : {D : Type 0} (g : Ghosts D) (r : Replica D) → is_quiet (facts_of g r) ≡ true → Rests r
 quiet_rests g r quiet =
-    let parts = both (length (r.engine.block ++ r.backlog) == 0) (is_off (stage_in r.engine.checkpoint.stage)) quiet in
+    let parts = and_both (length (r.engine.block ++ r.backlog) == 0) (is_off (stage_in r.engine.checkpoint.stage)) quiet in
     let none = neither r.engine.block r.backlog (empty (r.engine.block ++ r.backlog) parts.0) in
     record { block = none.0; backlog = none.1; off = rests_off r.engine.checkpoint.stage parts.1 }
 
@@ -384,7 +381,3 @@ err_of (Err r) e = refl
 pub taken_of : {P : Type 0} (result : Result (Unit {0}) Refusal) → IsOk result → OnOk result P → P
 taken_of (Ok x) ok h = h
 taken_of (Err r) ok h = absurd cc
-
-pub some_by : {A : Type 0} (o : Option A) {P : A → Type 0} → ((x : A) → P x) → IfSome o P
-some_by None f = tt
-some_by (Some x) f = f x

@@ -8,6 +8,7 @@ use Rattle.rep_types.specs.declared.reply.Reply.{Reply}
 use Rattle.rep_types.specs.declared.refusal.Refusal.{Refusal}
 use Rattle.rep_types.specs.declared.refusal.Refusal.TheVariants.{Stopped, NotDue, OutOfMemory, DiskFault, Corrupt}
 use Rattle.rep_types.specs.declared.refusal.Part.TheVariants.{Pages}
+use Rattle.rep_types.proofs.Lists.{filter_no_longer}
 use Rattle.rep_disk.specs.declared.disk.Disk.{Ghosts}
 use Rattle.rep_disk.specs.History.{History, seen}
 use Rattle.rep_layout.specs.declared.place.Layout.{Layout}
@@ -290,15 +291,11 @@ counted : (b : Bool) (test : ℕ → Bool) (page : ℕ) (pages : List ℕ) → t
 counted true test page pages is le = omega (arith, le, ap (λ b. length (if b then page ∷ filter test pages else filter test pages)) is)
 counted false test page pages is le = omega (arith, le, ap (λ b. length (if b then page ∷ filter test pages else filter test pages)) is)
 
-at_most : (test : ℕ → Bool) (pages : List ℕ) → length (filter test pages) ≤ length pages
-at_most test [] = omega arith
-at_most test (page ∷ pages) = counted (test page) test page pages refl (at_most test pages)
-
 fewer : (page : ℕ) (left : List ℕ) → length (filter (λ (p : ℕ). not (p == page)) (page ∷ left)) + 8 < length (page ∷ left) + 8
 fewer page left =
     let gone : filter (λ (p : ℕ). not (p == page)) (page ∷ left) ≡ filter (λ (p : ℕ). not (p == page)) left =
     ap (λ b. if not b then page ∷ filter (λ (p : ℕ). not (p == page)) left else filter (λ (p : ℕ). not (p == page)) left) (same_number page) in
-    omega (arith, ap length gone, at_most (λ (p : ℕ). not (p == page)) left)
+    omega (arith, ap length gone, filter_no_longer (λ (p : ℕ). not (p == page)) left)
 
 -- It is nearer to its end, and leaves a log at rest as it is.
 pub record Goes (s t : Standing) : Type 0 where

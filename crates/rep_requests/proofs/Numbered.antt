@@ -13,9 +13,9 @@ use Rattle.rep_types.specs.declared.key.Key.{Key}
 use Rattle.rep_types.specs.declared.refusal.Refusal.{Refusal}
 use Rattle.rep_types.specs.declared.refusal.Refusal.TheVariants.{Malformed}
 use Rattle.rep_record.specs.Words.{words, is_blank, cut}
-use Rattle.rep_record.specs.Reading.{is_next, some_each, key_in, order_line}
+use Rattle.rep_record.specs.Reading.{number_in, is_next, some_each, key_in, order_line}
 use Rattle.rep_record.specs.Published.{published}
-use Rattle.rep_requests.specs.Requests.{Requested, Nothing, Published, Stated, Read, State, Limits, Counters, Donate, Refused, Broken, begins_with_digit, seqno_in, published_as, numbered_by, numbered, rows_requested, transfer_requested, alone, item_requested, command_in, command, requested}
+use Rattle.rep_requests.specs.Requests.{Requested, Nothing, Published, Stated, Read, State, Limits, Counters, Donate, Refused, Broken, begins_with_digit, seqno_in, published_as, numbered_by, numbered, rows_requested, sum_at, sum_requested, transfer_requested, alone, item_requested, command_in, command, requested}
 use Rattle.rep_requests.specs.Laws.{IsItemLine}
 use Rattle.rep_requests.proofs.Spaces.{HasNoSpace, cut_at_space, cut_nowhere, IsCut, cut_or_none, front_none, space_behind, space_after, front_at}
 
@@ -46,6 +46,15 @@ no_read_by : (number : ℕ) (o : Option (List Key)) → is_published (rows_reque
 no_read_by number None = refl
 no_read_by number (Some keys) = neither (nat_lt 16 (length keys)) _ _ refl refl
 
+no_sum_by : (number : ℕ) (o : Option ℕ) → is_published (sum_at number o) ≡ false
+no_sum_by number None = refl
+no_sum_by number (Some position) = refl
+
+no_sum : (number : ℕ) (words : List (List ℕ)) → is_published (sum_requested number words) ≡ false
+no_sum number [] = refl
+no_sum number (word ∷ []) = no_sum_by number (number_in (2 ^ 64) word)
+no_sum number (word ∷ more ∷ words) = refl
+
 no_donate : (number : ℕ) (words : List (List ℕ)) → is_published (transfer_requested number words) ≡ false
 no_donate number [] = refl
 no_donate number (have ∷ []) = refl
@@ -60,10 +69,11 @@ no_command : (number : ℕ) (line : List ℕ) (words : List (List ℕ)) → is_p
 no_command number line words =
     neither (is_next (codes "item") words || is_next (codes "window") words) _ _ (no_stated (order_line number line))
     (neither (is_next (codes "read") words) _ _ (no_read_by number (some_each key_in (drop 1 words)))
+    (neither (is_next (codes "sum") words) _ _ (no_sum number (drop 1 words))
     (neither (is_next (codes "state") words) _ _ (neither (nat_lt 0 (length (drop 1 words))) _ _ refl refl)
     (neither (is_next (codes "limits") words) _ _ (neither (nat_lt 0 (length (drop 1 words))) _ _ refl refl)
     (neither (is_next (codes "counters") words) _ _ (neither (nat_lt 0 (length (drop 1 words))) _ _ refl refl)
-    (neither (is_next (codes "donate") words) _ _ (no_donate number (drop 1 words)) refl)))))
+    (neither (is_next (codes "donate") words) _ _ (no_donate number (drop 1 words)) refl))))))
 
 pub no_item : (number : ℕ) (line : List ℕ) (seqno : ℕ) (i : Item) → begins_with_digit line ≡ false → requested number line ≡ Published seqno i → ⊥
 no_item number line seqno i other is =

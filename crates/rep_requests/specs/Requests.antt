@@ -13,13 +13,14 @@ use Rattle.rep_record.specs.Published.{published}
 use Rattle.rep_requests.specs.declared.request.Request.{Request}
 use Rattle.rep_requests.specs.declared.request.Request.TheVariants as request
 
--- What a line asks for: nothing; the item that has this seqno of the order, or the next one; a row of each of these keys; a line of the
--- state, the limits or the counters; a transfer. Or it is refused; or it begins with a digit and has no seqno.
+-- What a line asks for: nothing; the item that has this seqno of the order, or the next one; a row of each of these keys; the sum of the rows
+-- at this position, or at what is durable; a line of the state, the limits or the counters; a transfer. Or it is refused; or it begins with a digit and has no seqno.
 pub data Requested : Type 0 where
   Nothing : Requested
   Published : (seqno : ℕ) (i : Item) → Requested
   Stated : (i : Item) → Requested
   Read : (keys : List Key) → Requested
+  Sum : (at : Option ℕ) → Requested
   State : Requested
   Limits : Requested
   Counters : Requested
@@ -33,6 +34,7 @@ said_of request.Nothing = Nothing
 said_of (request.Published seqno i) = Published seqno i
 said_of (request.Stated i) = Stated i
 said_of (request.Read keys) = Read keys.items
+said_of (request.Sum at) = Sum at
 said_of request.State = State
 said_of request.Limits = Limits
 said_of request.Counters = Counters
@@ -75,6 +77,17 @@ abbrev pub rows_requested : ℕ → Option (List Key) → Requested
 rows_requested number None = Refused (Malformed number)
 rows_requested number (Some keys) = if nat_lt 16 (length keys) then Refused TooManyReads else Read keys
 
+-- what `sum` asks for at the position that this is
+abbrev pub sum_at : ℕ → Option ℕ → Requested
+sum_at number None = Refused (Malformed number)
+sum_at number (Some position) = Sum (Some position)
+
+-- what `sum` asks for with these words behind it: a position, or none
+abbrev pub sum_requested : ℕ → List (List ℕ) → Requested
+sum_requested number [] = Sum None
+sum_requested number (word ∷ []) = sum_at number (number_in (2 ^ 64) word)
+sum_requested number words = Refused (Malformed number)
+
 -- what `donate` asks for with these words behind it: two names
 abbrev pub transfer_requested : ℕ → List (List ℕ) → Requested
 transfer_requested number (have ∷ out ∷ []) = Donate have out
@@ -93,6 +106,7 @@ abbrev pub command_in : ℕ → List ℕ → List (List ℕ) → Requested
 command_in number line words =
     if is_next (codes "item") words || is_next (codes "window") words then item_requested (order_line number line)
     else if is_next (codes "read") words then rows_requested number (some_each key_in (drop 1 words))
+    else if is_next (codes "sum") words then sum_requested number (drop 1 words)
     else if is_next (codes "state") words then alone number State (drop 1 words)
     else if is_next (codes "limits") words then alone number Limits (drop 1 words)
     else if is_next (codes "counters") words then alone number Counters (drop 1 words)

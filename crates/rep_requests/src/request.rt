@@ -5,7 +5,7 @@ ghost use Rattle.std.specs.Option.{option_map};
 ghost use Rattle.rep_record.specs.Words.{words};
 ghost use Rattle.rep_record.specs.Reading.{each, some_each, key_in, order_line};
 ghost use Rattle.rep_types.specs.declared.refusal.Refusal.TheVariants.{Malformed};
-ghost use Rattle.rep_requests.specs.Requests.{Refused as is_refused, said_of, begins_with_digit, seqno_in, numbered, first_keys, rows_requested, transfer_requested, item_requested, command, requested};
+ghost use Rattle.rep_requests.specs.Requests.{Refused as is_refused, said_of, begins_with_digit, seqno_in, numbered, first_keys, rows_requested, sum_requested, transfer_requested, item_requested, command, requested};
 
 use arrayvec::ArrayVec;
 use rep_record::{MAX_LINE, Words, cut_at, is_blank, published_item, read_key, read_order_line};
@@ -28,6 +28,8 @@ pub enum Request<'a> {
     Stated(Item),
     /// The rows of these keys, of which there is one or more.
     Read(ArrayVec<Key, MAX_KEYS>),
+    /// The sum of the rows at this position, or at what is durable.
+    Sum(Option<u64>),
     /// The line of the node's state.
     State,
     /// The line of the limits of its window.
@@ -106,6 +108,21 @@ fn read_rows<'a>(words: Words<'a>, number: u64) -> Request<'a>
     }
 }
 
+/// What `sum` asks for with these words behind it, in the line with this number.
+fn read_sum<'a>(mut words: Words<'a>, number: u64) -> Request<'a>
+    ensures { said_of result ≡ sum_requested number words.entry }
+{
+    let Some(word) = words.next_word() else {
+        return Request::Sum(None);
+    };
+    if let Some(position) = read_number(word)
+        && words.is_empty()
+    {
+        return Request::Sum(Some(position));
+    }
+    Request::Refused(Refusal::Malformed { at: number })
+}
+
 /// What `donate` asks for with these words behind it, in the line with this number.
 fn read_donate<'a>(mut words: Words<'a>, number: u64) -> Request<'a>
     ensures { said_of result ≡ transfer_requested number words.entry }
@@ -148,6 +165,8 @@ fn read_command<'a>(line: &'a [u8], number: u64) -> Request<'a>
         read_stated(line, number)
     } else if words.skip(b"read") {
         read_rows(words, number)
+    } else if words.skip(b"sum") {
+        read_sum(words, number)
     } else if words.skip(b"state") {
         alone(&words, Request::State, number)
     } else if words.skip(b"limits") {

@@ -7,18 +7,14 @@ use Rattle.std.proofs.lemmas.List.Splits.{slice_split_first}
 use Rattle.std.specs.Option.{option_map}
 use Rattle.rep_record.specs.Words.{cut}
 use Rattle.rep_saved.specs.Lines.{said, without_return}
-use Rattle.std.specs.Option.{option_or}
 use Rattle.rep_types.specs.declared.refusal.Refusal.{Refusal}
 use Rattle.rep_types.specs.declared.refusal.Refusal.TheVariants.{Malformed}
+use Rattle.rep_types.proofs.Choices.{option_or_assoc}
 use Rattle.rep_saved.specs.declared.saved.Found.{Found}
 use Rattle.rep_saved.specs.declared.saved.SavedState.{SavedState}
 use Rattle.rep_saved.specs.declared.line.Said.{Said}
 use Rattle.rep_saved.specs.declared.line.Said.TheVariants.{Nothing, Uuid, Seqno, Safe, Bad}
 use Rattle.rep_saved.specs.Saved.{Saying, saying, sayings, whole, rest_of, found_with}
-
-option_or_assoc : {A : Type 0} (a b c : Option A) → option_or (option_or a b) c ≡ option_or a (option_or b c)
-option_or_assoc None b c = refl
-option_or_assoc (Some x) b c = refl
 
 -- one more saying that is not bad is found
 pub rest_more : (size at : ℕ) (f g : Found) (said : Said) (ss : List Saying) → found_with f said ≡ Some g → rest_of size f (saying at said ∷ ss) ≡ rest_of size g ss

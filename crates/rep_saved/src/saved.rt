@@ -83,7 +83,7 @@ impl Found {
 }
 
 /// The seqno as a text.
-#[tactic(auto, using(std::proofs::lemmas::Fmt::decimal_digit, rep_record::proofs::Writing::decimal_fits))]
+#[tactic(auto, using(std::proofs::lemmas::Fmt::decimal_digit, rep_types::proofs::Lists::decimal_fits))]
 fn seqno_text(gtid: Gtid) -> ArrayString<64>
     ensures text { result.bytes ≡ signed_decimal gtid.seqno }
     ensures short { array_string_len result ≤ 20 }

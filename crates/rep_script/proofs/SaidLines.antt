@@ -1,6 +1,6 @@
 -- What a line of an order text has to be to be read without a fault.
 use Rattle.std.proofs.Common.{◌≡◌, ℕ, ◌+◌, ◌<◌, ◌≤◌, Bool, true, false, cond, ltb, List, [], ◌∷◌, length, map, Option, Some, None, Result, Ok, Err, refl, ap, subst, ◌∙◌, arith}
-use Rattle.std.specs.Prelude.{◌||◌, IfSome}
+use Rattle.std.specs.Prelude.{IfSome}
 use Rattle.std.specs.List.{list_any, AllByRecursion}
 use Rattle.std.specs.Option.{option_map_or}
 use Rattle.std.proofs.lemmas.Bool.{ltb-false, lt-ltb, le-ltb}
@@ -14,6 +14,7 @@ use Rattle.rep_types.specs.Keys.{disorder}
 use Rattle.rep_types.specs.Transactions.{Transaction, IsWithinLimits, HasShortValue, key_of, misplaced, misplaced_entry, misplaced_write}
 use Rattle.rep_types.specs.Settings.{Setting, is_setting}
 use Rattle.rep_types.specs.Windows.{is_window_size}
+use Rattle.rep_types.proofs.Choices.{or_both}
 use Rattle.rep_record.specs.Lines.{without_feed, line_fault}
 use Rattle.rep_record.specs.Grammar.{IsOrderLine, IsParamsLine}
 use Rattle.rep_record.specs.Reading.{is_long, well_placed, limited, of_kind, limited_item, order_form, order_outcome, order_line, params_form, params_outcome, params_line}
@@ -21,11 +22,6 @@ use Rattle.rep_record.proofs.Parts.{order_means, params_mean}
 use Rattle.rep_script.specs.OrderText.{IsItem}
 
 -- ---- the limits of a write set
-
--- both sides of a disjunction that fails
-neither : (a b : Bool) → (a || b) ≡ false → (a ≡ false) × (b ≡ false)
-neither true b e = absurd cc
-neither false b e = (refl, e)
 
 -- a value that is not too long is short
 value_found : (value : Option (List ℕ)) → option_map_or (λ (bytes : List ℕ). ltb 62 (length bytes)) value false ≡ false → IfSome value (λ bytes. length bytes ≤ 62)
@@ -41,7 +37,7 @@ value_again (Some bytes) h = le-ltb 62 (length bytes) h
 values_found : (writes : List Write) → list_any is_long writes ≡ false → AllByRecursion HasShortValue writes
 values_found [] e = tt
 values_found (write ∷ writes) e =
-    let p = neither (is_long write) (list_any is_long writes) e in
+    let p = or_both (is_long write) (list_any is_long writes) e in
     (value_found write.value p.0, values_found writes p.1)
 
 -- where each value is short, none is too long

@@ -6,6 +6,7 @@ use Rattle.std.proofs.Math.Seq.{take-append_seam}
 use Rattle.rep_types.specs.declared.refusal.Refusal.{Refusal}
 use Rattle.rep_types.specs.declared.refusal.Refusal.TheVariants.{StreamFault, Malformed}
 use Rattle.rep_types.specs.Settings.{Setting}
+use Rattle.rep_types.proofs.Choices.{some_by_each}
 use Rattle.rep_disk.specs.declared.disk.Disk.{Ghosts}
 use Rattle.rep_disk.specs.declared.memory.Loss.{Loss}
 use Rattle.rep_disk.specs.History.{History, stable}
@@ -340,10 +341,6 @@ script_unread g crashes (Some text) left' u new refusal is reads =
       | _ ↦ λ e. rw e (inl (record { fault = refl; done = inl refl }))
     ] (subst (λ (v : Unread). ReadsParams script_line (v.pending ++ text) v (Err refusal) new left') is reads.1)
 
-for_any : {A : Type 0} {P : A → Type 0} (o : Option A) → ((x : A) → P x) → IfSome o P
-for_any None all = tt
-for_any (Some x) all = all x
-
 -- a script whose params line is read ends as the lines behind it do
 begun : {D : Type 0} (g : Ghosts D) (crashes : Loss → D → D → Type 0) (text : List ℕ) (first new : Unread) (rest : Option (List ℕ)) (p : Setting) (result : Result (Unit {0}) Refusal) →
     IsSomeAnd rest (λ rest. text_ahead script_line first text ≡ reading_of p (said_ahead script_line new rest)) →
@@ -359,7 +356,7 @@ pub script_without_disk : {D : Type 0} (g : Ghosts D) (crashes : Loss → D → 
 script_without_disk g crashes None left' u new p refusal is reads on = tt
 script_without_disk g crashes (Some text) left' u new p refusal is reads on =
     begun g crashes text at_start new (ahead new left') p (Err refusal) (subst (λ (v : Unread). ReadsParams script_line (v.pending ++ text) v (Ok p) new left') is reads.1)
-    (for_any (ahead new left') (λ rest. any_refusal g crashes (reading_of p (said_ahead script_line new rest)) refusal (inr (inl on))))
+    (some_by_each (ahead new left') (λ rest. any_refusal g crashes (reading_of p (said_ahead script_line new rest)) refusal (inr (inl on))))
 
 -- a whole script whose params line is read, and whose lines are run
 pub script_read : {D : Type 0} (g : Ghosts D) (crashes : Loss → D → D → Type 0) (left left' : Option (List ℕ)) (u new : Unread) (p : Setting) (result : Result (Unit {0}) Refusal) → u ≡ at_start →

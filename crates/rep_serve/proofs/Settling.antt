@@ -1,15 +1,9 @@
 -- Whether a replica that settled is stopped.
-use Rattle.std.proofs.Common.{◌≡◌, Bool, true, false, Option, None, Some, Result, Ok, Err, refl, sym, ◌∙◌, ◌⊎◌, inl, inr}
-use Rattle.std.specs.Prelude.{◌||◌, ◌≢◌, is_some}
+use Rattle.std.proofs.Common.{◌≡◌, Bool, true, false, Result, Ok, Err, refl, sym, ◌∙◌, ◌⊎◌, inl, inr}
+use Rattle.std.specs.Prelude.{◌≢◌}
 use Rattle.rep_types.specs.declared.refusal.Refusal.{Refusal}
 use Rattle.rep_types.specs.declared.refusal.Refusal.TheVariants.{Stopped, StreamFault}
 use Rattle.rep_replica.specs.Settling.{EndsEarly}
-
--- neither stopped from outside, nor its device failed
-pub neither : {A : Type 0} (b : Bool) (o : Option A) → (b || is_some o) ≡ false → (b ≡ false) × (o ≡ None)
-neither true o is = absurd (let never : true ≡ false = is in cc)
-neither false None is = (refl, refl)
-neither false (Some x) is = absurd (let never : true ≡ false = is in cc)
 
 -- a call that was done was not refused
 pub not_refused : (b : Bool) (P : Type 0) (result : Result (Unit {0}) Refusal) (x : Unit {0}) (e : Refusal) → result ≡ Ok x → (b ≡ true → (result ≡ Err e) × P) → b ≡ false

@@ -9,6 +9,7 @@ use Rattle.rep_types.specs.declared.key.Key.{Key}
 use Rattle.rep_types.specs.declared.value.Write.{Write}
 use Rattle.rep_types.specs.Keys.{key_eq, key_lt, disorder, disorder_after}
 use Rattle.rep_types.specs.Transactions.{key_of}
+use Rattle.rep_types.proofs.Lists.{all_filter}
 use Rattle.rep_session.specs.Sessions.{placed, itself}
 use Rattle.rep_session.proofs.Keys.{lt_trans, lt_not_gt, lt_not_eq, gt_not_eq, eq_not_gt, between, same_key}
 
@@ -31,15 +32,6 @@ kept_pass_first p x xs false e rest = rest
 pub kept_pass : {A : Type 0} (p : A → Bool) (xs : List A) → AllByRecursion (λ y. p y ≡ true) (filter p xs)
 kept_pass p [] = tt
 kept_pass p (x ∷ xs) = kept_pass_first p x (filter p xs) (p x) refl (kept_pass p xs)
-
--- what holds of each holds of those that are kept
-kept_all_first : {A : Type 0} (P : A → Type 0) (x : A) (xs : List A) (b : Bool) → P x → AllByRecursion P xs → AllByRecursion P (cond b (x ∷ xs) xs)
-kept_all_first P x xs true here rest = (here, rest)
-kept_all_first P x xs false here rest = rest
-
-pub kept_all : {A : Type 0} (P : A → Type 0) (p : A → Bool) (xs : List A) → AllByRecursion P xs → AllByRecursion P (filter p xs)
-kept_all P p [] h = tt
-kept_all P p (x ∷ xs) h = kept_all_first P x (filter p xs) (p x) h.0 (kept_all P p xs h.1)
 
 module _ {A : Type 0} (f : A → Key) where
   -- each key is below all behind it
@@ -86,7 +78,7 @@ module _ {A : Type 0} (f : A → Key) where
 
   pub ascend_kept : (p : A → Bool) (xs : List A) → Ascend xs → Ascend (filter p xs)
   ascend_kept p [] h = tt
-  ascend_kept p (x ∷ xs) h = ascend_kept_first p x (filter p xs) (p x) (kept_all (λ y. key_lt (f x) (f y) ≡ true) p xs h.0) (ascend_kept p xs h.1)
+  ascend_kept p (x ∷ xs) h = ascend_kept_first p x (filter p xs) (p x) (all_filter (λ y. key_lt (f x) (f y) ≡ true) p xs h.0) (ascend_kept p xs h.1)
 
   -- two ascending lists with an element between them
   above_joined : (k : Key) (xs : List A) (w : A) (ys : List A) → AllByRecursion (λ y. key_lt k (f y) ≡ true) xs → key_lt k (f w) ≡ true →

@@ -11,20 +11,17 @@ use Rattle.rep_types.specs.declared.item.Item.{Item}
 use Rattle.rep_types.specs.Items.{reads_of, seen_by}
 use Rattle.rep_types.specs.Order.{Order, item, read}
 use Rattle.rep_types.specs.Verdicts.{ReadsAreSerial}
+use Rattle.rep_types.proofs.Choices.{option_or_assoc, option_or_none}
 use Rattle.rep_session.specs.declared.finished.Finished.TheVariants.{ReadOnly, WriteSet}
 use Rattle.rep_session.specs.Sessions.{Progress, begun, write_of}
 use Rattle.rep_session.specs.Runs.{Call, Got, Wrote, Runs, done, last_write, WasGot, SessionsComeTo, SessionsAreSerial}
-use Rattle.rep_session.proofs.Stepping.{Stepped, stepped, or_none}
-
-or_assoc : {A : Type 0} (a b c : Option A) → option_or a (option_or b c) ≡ option_or (option_or a b) c
-or_assoc None b c = refl
-or_assoc (Some x) b c = refl
+use Rattle.rep_session.proofs.Stepping.{Stepped, stepped}
 
 -- the last write of more calls
 last_more : (call : Call) (calls : List Call) (key : Key) → last_write (done (call ∷ calls)) key ≡ option_or (last_write (done calls) key) (last_write (done (call ∷ [])) key)
-last_more (Got k answer) calls key = sym (or_none (last_write (done calls) key))
+last_more (Got k answer) calls key = sym (option_or_none (last_write (done calls) key))
 last_more (Wrote write (Ok nothing)) calls key = refl
-last_more (Wrote write (Err refusal)) calls key = sym (or_none (last_write (done calls) key))
+last_more (Wrote write (Err refusal)) calls key = sym (option_or_none (last_write (done calls) key))
 
 -- the same of a session that had read and written something before
 pub record ReadFrom (t : Progress) (calls : List Call) (key : Key) (row : Option (List ℕ)) : Type 0 where
@@ -66,7 +63,7 @@ module _ (p : Setting) (L : Order) (t mid u : Progress) (call : Call) (calls : L
   prior : (before : List Call) (key : Key) → option_or (last_write (done before) key) (write_of mid.writes key) ≡ option_or (last_write (done (call ∷ before)) key) (write_of t.writes key)
   prior before key =
       ap (option_or (last_write (done before) key)) (s.writes key)
-      ∙ or_assoc (last_write (done before) key) (last_write (done (call ∷ [])) key) (write_of t.writes key)
+      ∙ sym (option_or_assoc (last_write (done before) key) (last_write (done (call ∷ [])) key) (write_of t.writes key))
       ∙ ap (λ o. option_or o (write_of t.writes key)) (sym (last_more call before key))
 
   read_by : (key : Key) (row : Option (List ℕ)) (before behind : List Call) → call ∷ calls ≡ before ++ Got key (Ok row) ∷ behind →
@@ -140,14 +137,14 @@ module _ {S : Type 0} (gives : S → Key → ℕ → Result (Option (List ℕ)) 
         snapshot = c.snapshot;
         reads = λ key. (
           (λ has. ⊎_elim (λ old. absurd (omega (arith, old.1)))
-              (λ found. (found.0, record { got = found.1.got; unwritten = sym (or_none (last_write (done found.1.got.before) key)) ∙ found.1.unwritten }))
+              (λ found. (found.0, record { got = found.1.got; unwritten = sym (option_or_none (last_write (done found.1.got.before) key)) ∙ found.1.unwritten }))
               (c.from key has)),
-          (λ found. (c.read_now key found.0 (record { got = found.1.got; unwritten = or_none (last_write (done found.1.got.before) key) ∙ found.1.unwritten })).0),
+          (λ found. (c.read_now key found.0 (record { got = found.1.got; unwritten = option_or_none (last_write (done found.1.got.before) key) ∙ found.1.unwritten })).0),
         );
-        writes = λ key. c.writes key ∙ or_none (last_write (done calls) key);
+        writes = λ key. c.writes key ∙ option_or_none (last_write (done calls) key);
         once = λ key. c.once key refl;
-        rows = λ key row was. (c.read_now key row (record { got = was.got; unwritten = or_none (last_write (done was.got.before) key) ∙ was.unwritten })).1;
-        own = λ key answer write got is. c.own key answer write got (or_none (last_write (done got.before) key) ∙ is);
+        rows = λ key row was. (c.read_now key row (record { got = was.got; unwritten = option_or_none (last_write (done was.got.before) key) ∙ was.unwritten })).1;
+        own = λ key answer write got is. c.own key answer write got (option_or_none (last_write (done got.before) key) ∙ is);
       }
 
   -- the write set of a session that ended with one

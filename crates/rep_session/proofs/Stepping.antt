@@ -13,6 +13,7 @@ use Rattle.rep_types.specs.Keys.{key_eq, key_lt}
 use Rattle.rep_types.specs.Settings.{Setting, has_row}
 use Rattle.rep_types.specs.Transactions.{key_of}
 use Rattle.rep_types.specs.Order.{Order, read, latest}
+use Rattle.rep_types.proofs.Choices.{option_or_none}
 use Rattle.rep_types.proofs.Latest.{latest-append}
 use Rattle.rep_types.proofs.Members.{Contains-filter, Contains-from_filter, Contains-cons_cases, Contains-first, Contains-behind}
 use Rattle.rep_session.specs.Sessions.{Progress, known, recalled, is_read_too_many, write_of, with_read, with_write, after_read, write_refusal, placed, itself}
@@ -43,10 +44,6 @@ find_dropped : (test p : Write → Bool) → ((x : Write) → test x ≡ true �
 find_dropped test p h [] = refl
 find_dropped test p h (x ∷ xs) = find_dropped_first test p x xs (test x) (p x) refl refl (h x) (find_dropped test p h xs)
 
-pub or_none : {A : Type 0} (o : Option A) → option_or o None ≡ o
-or_none None = refl
-or_none (Some x) = refl
-
 -- where none is found, there is no last one either
 latest_none_first : (test : Write → Bool) (x : Write) (xs : List Write) (t : Bool) → cond t (Some x) (find test xs) ≡ None →
     (find test xs ≡ None → latest test xs ≡ None) → option_or (latest test xs) (cond t (Some x) None) ≡ None
@@ -62,7 +59,7 @@ latest_kept_first : (test p : Write → Bool) (x : Write) (xs : List Write) (t b
     latest test (filter p xs) ≡ latest test xs → latest test (cond b (x ∷ filter p xs) (filter p xs)) ≡ option_or (latest test xs) (cond t (Some x) None)
 latest_kept_first test p x xs t true e g h rest = rw e (ap (λ o. option_or o (cond t (Some x) None)) rest)
 latest_kept_first test p x xs true false e g h rest = absurd (let q : false ≡ true = sym g ∙ h e in cc)
-latest_kept_first test p x xs false false e g h rest = rest ∙ sym (or_none (latest test xs))
+latest_kept_first test p x xs false false e g h rest = rest ∙ sym (option_or_none (latest test xs))
 
 latest_kept : (test p : Write → Bool) → ((x : Write) → test x ≡ true → p x ≡ true) → (xs : List Write) → latest test (filter p xs) ≡ latest test xs
 latest_kept test p h [] = refl
@@ -111,7 +108,7 @@ module _ (write : Write) (key : Key) (ws : List Write) where
       let keeps : (w : Write) → of_key w ≡ true → above w ≡ true = λ w e. rw (same_key w.key key e) up in
       record {
         first = placed_found ∙ rw (none, lt_not_eq write.key key up) (find_kept of_key above keeps ws);
-        once = λ old. placed_last ∙ rw (latest_none of_key (filter below ws) none, lt_not_eq write.key key up, latest_kept of_key above keeps ws) (or_none (option_or (latest of_key ws) None) ∙ or_none (latest of_key ws) ∙ old);
+        once = λ old. placed_last ∙ rw (latest_none of_key (filter below ws) none, lt_not_eq write.key key up, latest_kept of_key above keeps ws) (option_or_none (option_or (latest of_key ws) None) ∙ option_or_none (latest of_key ws) ∙ old);
       }
 
   -- and under a key below it
@@ -120,7 +117,7 @@ module _ (write : Write) (key : Key) (ws : List Write) where
       let none : find of_key (filter above ws) ≡ None = find_dropped of_key above (λ w e. rw (same_key w.key key e) (lt_not_gt key write.key down)) ws in
       let keeps : (w : Write) → of_key w ≡ true → below w ≡ true = λ w e. rw (same_key w.key key e) down in
       record {
-        first = placed_found ∙ rw (find_kept of_key below keeps ws, gt_not_eq key write.key down, none) (or_none (find of_key ws));
+        first = placed_found ∙ rw (find_kept of_key below keeps ws, gt_not_eq key write.key down, none) (option_or_none (find of_key ws));
         once = λ old. placed_last ∙ rw (latest_none of_key (filter above ws) none, gt_not_eq key write.key down, latest_kept of_key below keeps ws) old;
       }
 

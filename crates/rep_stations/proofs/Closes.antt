@@ -8,6 +8,7 @@ use Rattle.uuid.specs.Parts.{is_nil_bytes}
 use Rattle.rep_types.specs.declared.judged.Judged.{Judged}
 use Rattle.rep_types.specs.Settings.{Setting}
 use Rattle.rep_types.specs.Order.{State}
+use Rattle.rep_types.proofs.Choices.{and_left}
 use Rattle.rep_disk.specs.declared.disk.Disk.{Ghosts}
 use Rattle.rep_cert.specs.Holdings.{Holding, window_of}
 use Rattle.rep_steps.specs.Standings.{Standing, IsStanding}
@@ -32,14 +33,10 @@ none_left : {X : Type 0} (xs ys : List X) → xs ++ ys ≡ [] → (xs ≡ []) ×
 none_left [] ys e = (refl, e)
 none_left (x ∷ xs) ys e = absurd cc
 
-first_of : (a b : Bool) → (a && b) ≡ true → a ≡ true
-first_of true b e = refl
-first_of false b e = e
-
 no_items : {X : Type 0} (xs : List X) (b : Bool) → ((length xs == 0) && b) ≡ true → xs ≡ []
 no_items [] b e = refl
 no_items (x ∷ xs) b e =
-    let first : (length (x ∷ xs) == 0) ≡ true = first_of (length (x ∷ xs) == 0) b e in
+    let first : (length (x ∷ xs) == 0) ≡ true = and_left (length (x ∷ xs) == 0) b e in
     let none : length (x ∷ xs) ≡ 0 = grind (arith, nat_tests, first) in
     absurd (omega (arith, none))
 

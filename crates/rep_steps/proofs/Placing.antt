@@ -1,7 +1,7 @@
 -- What is judged has a place in a block: a conflict is with an item before it.
 use Rattle.std.proofs.Common.{◌≡◌, ℕ, ◌+◌, ◌<◌, ◌≤◌, Bool, true, false, List, Option, None, Some, refl, arith}
 use Rattle.std.proofs.lemmas.Bool.Decides.{nat_tests}
-use Rattle.std.specs.Prelude.{nat_le, nat_lt, ◌&&◌, not, if◌then◌else◌, filter}
+use Rattle.std.specs.Prelude.{nat_le, nat_lt, not, if◌then◌else◌, filter}
 use Rattle.std.specs.List.{Contains}
 use Rattle.rep_types.specs.declared.verdict.Verdict.TheVariants.{Stale, Future, BadKey}
 use Rattle.rep_types.specs.declared.limits.TheConstants.{MAX_SEQNO}
@@ -12,14 +12,11 @@ use Rattle.rep_types.specs.declared.item.Item.TheVariants.{WriteSet, SetWindow}
 use Rattle.rep_types.specs.Settings.{Setting}
 use Rattle.rep_types.specs.Transactions.{Transaction, named}
 use Rattle.rep_types.specs.Order.{against, seqnos_against, greatest, conflict_with, in_schema, touches, judge, recent}
+use Rattle.rep_types.proofs.Choices.{and_left}
 use Rattle.rep_types.proofs.Greatest.{IsGreatest, IsGreatest-greatest}
 use Rattle.rep_types.proofs.Members.{Contains-from_map, Contains-from_filter}
 use Rattle.rep_record.specs.Records.{is_verdict_at, is_placed}
 use Rattle.rep_steps.specs.Judging.{VerdictsHaveAPlace}
-
-first_of : (a b : Bool) → (a && b) ≡ true → a ≡ true
-first_of true b e = refl
-first_of false b e = e
 
 module _ (p : Setting) (position : ℕ) (v : Window) (w : Transaction) (low : (e : Entry) → Contains v.entries e → e.seqno ≤ position) where
   -- those that stand against an item were not seen by it, so they are items
@@ -29,7 +26,7 @@ module _ (p : Setting) (position : ℕ) (v : Window) (w : Transaction) (low : (e
       let e : Entry = among.0 in
       let stands = Contains-from_filter (against w) _ e among.1 in
       let up = low e stands.0 in
-      let unseen : nat_lt w.last_seen e.seqno ≡ true = first_of (nat_lt w.last_seen e.seqno) (touches e.keys (named w)) stands.1 in
+      let unseen : nat_lt w.last_seen e.seqno ≡ true = and_left (nat_lt w.last_seen e.seqno) (touches e.keys (named w)) stands.1 in
       (grind (arith, nat_tests, among.2, unseen), omega (arith, among.2, up))
 
   conflict_at : (o : Option ℕ) → IsGreatest (seqnos_against w v.entries) o → is_verdict_at (position + 1) (conflict_with o) ≡ true

@@ -1,9 +1,8 @@
 -- What is digested tells each row.
-use Rattle.std.proofs.Common.{◌≡◌, ◌⊎◌, inl, inr, ℕ, zero, suc, ◌+◌, ◌<◌, ◌≤◌, ◌^◌, List, [], ◌∷◌, ◌++◌, length, take, drop, Option, Some, None, refl, sym, ap, subst, ◌∙◌, append_assoc, arith}
+use Rattle.std.proofs.Common.{◌≡◌, ◌⊎◌, inl, inr, ℕ, zero, suc, ◌+◌, ◌<◌, ◌≤◌, ◌^◌, List, [], ◌∷◌, ◌++◌, length, Option, Some, None, refl, sym, ap, subst, ◌∙◌, append_assoc, arith}
 use Rattle.std.specs.Prelude.{slice_index}
 use Rattle.std.specs.Int.{bytes_high_first}
 use Rattle.std.specs.List.{AllByRecursion}
-use Rattle.std.proofs.lemmas.List.{take_at, drop_at}
 use Rattle.std.proofs.lemmas.List.Concat.{flat_map-cons}
 use Rattle.byteorder.specs.Endian.{big_number}
 use Rattle.byteorder.specs.Numbers.{big_number-reads_back, length-bytes_high_first}
@@ -12,27 +11,21 @@ use Rattle.rep_types.specs.Settings.{IsRow}
 use Rattle.rep_types.specs.Order.{State}
 use Rattle.rep_sum.specs.Telling.{SumsTellStates}
 use Rattle.rep_types.specs.Sums.{keys_from, keys_of_tables, keys_of, row_sum_bytes, rows_sum_bytes}
+use Rattle.rep_types.proofs.Lists.{same_parts, same_first}
 
 -- ---- bytes one behind another
-
--- of so many bytes in front
-same_front : (n : ℕ) (a b x y : List ℕ) → length a ≡ n → length b ≡ n → a ++ x ≡ b ++ y → (a ≡ b) × (x ≡ y)
-same_front n a b x y m k e = (sym (take_at a x n m) ∙ ap (take n) e ∙ take_at b y n k, sym (drop_at a x n m) ∙ ap (drop n) e ∙ drop_at b y n k)
 
 -- a number in front
 same_number : (n a b : ℕ) (x y : List ℕ) → a < 256 ^ n → b < 256 ^ n → bytes_high_first n a ++ x ≡ bytes_high_first n b ++ y → (a ≡ b) × (x ≡ y)
 same_number n a b x y m k e =
-    let parts = same_front n (bytes_high_first n a) (bytes_high_first n b) x y (length-bytes_high_first n a) (length-bytes_high_first n b) e in
+    let parts = same_parts n (bytes_high_first n a) (bytes_high_first n b) x y (length-bytes_high_first n a) (length-bytes_high_first n b) e in
     (sym (big_number-reads_back n a x m) ∙ ap (big_number n) e ∙ big_number-reads_back n b y k, parts.1)
-
-same_head : (a b : ℕ) (x y : List ℕ) → a ∷ x ≡ b ∷ y → (a ≡ b) × (x ≡ y)
-same_head a b x y e = (cc, cc)
 
 -- a value behind its length
 same_value : (v w x y : List ℕ) → (length v ∷ v) ++ x ≡ (length w ∷ w) ++ y → (v ≡ w) × (x ≡ y)
 same_value v w x y e =
-    let heads = same_head (length v) (length w) (v ++ x) (w ++ y) e in
-    same_front (length w) v w x y heads.0 refl heads.1
+    let heads = same_first (length v) (length w) (v ++ x) (w ++ y) e in
+    same_parts (length w) v w x y heads.0 refl heads.1
 
 -- ---- rows that ascend
 
@@ -89,7 +82,7 @@ more S key keys = flat_map-cons (λ (k : Key). row_sum_bytes k (S.content k)) ke
 -- the first row there is none of a key below
 parts_of : (a b : Key) (v w x y : List ℕ) → a.row < 256 ^ 4 → b.row < 256 ^ 4 → bytes_at a v ++ x ≡ bytes_at b w ++ y → (a.table ≡ b.table) × (a.row ≡ b.row) × (v ≡ w) × (x ≡ y)
 parts_of a b v w x y m k e =
-    let tables = same_head a.table b.table ((bytes_high_first 4 a.row ++ (length v ∷ v)) ++ x) ((bytes_high_first 4 b.row ++ (length w ∷ w)) ++ y) e in
+    let tables = same_first a.table b.table ((bytes_high_first 4 a.row ++ (length v ∷ v)) ++ x) ((bytes_high_first 4 b.row ++ (length w ∷ w)) ++ y) e in
     let regrouped = sym (append_assoc (bytes_high_first 4 a.row) (length v ∷ v) x) ∙ tables.1 ∙ append_assoc (bytes_high_first 4 b.row) (length w ∷ w) y in
     let rows = same_number 4 a.row b.row ((length v ∷ v) ++ x) ((length w ∷ w) ++ y) m k regrouped in
     let values = same_value v w x y rows.1 in
@@ -166,7 +159,7 @@ schema_holds P schema h key is =
 
 pub sums_tell : SumsTellStates
 sums_tell schema uuid other S T few size same_size S_fits T_fits e =
-    let fronts = same_front 16 uuid other _ _ size same_size e in
+    let fronts = same_parts 16 uuid other _ _ size same_size e in
     let numbers = same_number 8 S.position T.position (rows_sum_bytes S (keys_of schema)) (rows_sum_bytes T (keys_of schema)) S_fits T_fits fronts.1 in
     record {
       cluster = fronts.0;

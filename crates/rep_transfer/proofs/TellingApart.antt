@@ -1,9 +1,11 @@
 -- Bytes that begin with a transfer begin with no other.
-use Rattle.std.proofs.Common.{◌≡◌, ◌⊎◌, ℕ, ◌^◌, ◌<◌, List, [], ◌∷◌, ◌++◌, length, drop, Option, None, Some, IfSome, inl, inr, refl, sym, ap, subst, ◌∙◌, append_assoc, arith}
+use Rattle.std.proofs.Common.{◌≡◌, ◌⊎◌, ℕ, ◌^◌, ◌<◌, List, [], ◌∷◌, ◌++◌, length, Option, None, Some, IfSome, inl, inr, refl, sym, ap, subst, ◌∙◌, append_assoc, arith}
 use Rattle.std.specs.List.{flat_map, AllByRecursion}
+use Rattle.std.proofs.lemmas.Option.{same_Some}
 use Rattle.rep_types.specs.declared.judged.Judged.{Judged}
 use Rattle.rep_types.specs.Settings.{Setting}
 use Rattle.rep_types.specs.Windows.{Window, fixed}
+use Rattle.rep_types.proofs.Lists.{same_first}
 use Rattle.rep_forms.specs.Forms.{Form, IsForm, number, number_bytes, many}
 use Rattle.rep_forms.specs.FormLaws.{number_is_form, many_is_form}
 use Rattle.rep_forms.specs.Entries.{EntryFits, entry_bytes, entry_form}
@@ -23,12 +25,9 @@ use Rattle.rep_transfer.specs.Telling.{PartsAreTold, TransfersAreTold, IsTakenOf
 
 -- ---- a value of a form, and what stands behind it
 
-some_same : {A : Type 0} (p q : A) → Some p ≡ Some q → p ≡ q
-some_same p q is = cc
-
 told : {A : Type 0} (F : Form A) → IsForm F → (x y : A) (r s : List ℕ) → F.Fits x → F.Fits y → F.spell x ++ r ≡ F.spell y ++ s → (x ≡ y) × (r ≡ s)
 told {A} F is x y r s fits fit same =
-    let both = some_same {A = A × List ℕ} (x, r) (y, s) (sym (is.again x r fits) ∙ ap F.read same ∙ is.again y s fit) in
+    let both = same_Some {A = A × List ℕ} (x, r) (y, s) (sym (is.again x r fits) ∙ ap F.read same ∙ is.again y s fit) in
     (ap (λ (p : A × List ℕ). p.0) both, ap (λ (p : A × List ℕ). p.1) both)
 
 -- one that other bytes follow, and then what stands behind these
@@ -50,9 +49,6 @@ counted_told F is xs ys r s few less fits fit same =
     run_told F is xs ys r s count.0 fits fit count.1
 
 -- ---- a letter
-
-letter_told : (a b : ℕ) (r s : List ℕ) → a ∷ r ≡ b ∷ s → (a ≡ b) × (r ≡ s)
-letter_told a b r s same = (cc, ap (drop 1) same)
 
 -- ---- a snapshot
 
@@ -83,7 +79,7 @@ snapshot_of_parts s t position kept pages = ap (λ n. record { position = n; kep
 snapshot_told : (format : Format) (p : Setting) (s t : Snapshot) (r q : List ℕ) → SnapshotFits s → SnapshotFits t → IsOfFormat format p s.position s.kept → IsOfFormat format p t.position t.kept
     → snapshot_bytes format s ++ r ≡ snapshot_bytes format t ++ q → (s ≡ t) × (r ≡ q)
 snapshot_told format p s t r q fits fit tells tell same =
-    let behind = (letter_told 83 83 ((number_bytes 8 s.position ++ rest_of format s) ++ r) ((number_bytes 8 t.position ++ rest_of format t) ++ q) same).1 in
+    let behind = (same_first 83 83 ((number_bytes 8 s.position ++ rest_of format s) ++ r) ((number_bytes 8 t.position ++ rest_of format t) ++ q) same).1 in
     let position = told_before (number 8) (number_is_form 8) s.position t.position (rest_of format s) (rest_of format t) r q fits.position fit.position behind in
     let pages_of : Snapshot → List ℕ = λ x. number_bytes 2 (length x.pages) ++ flat_map page_bytes x.pages in
     let window = kept_told format p t.position s.kept t.kept (pages_of s ++ r) (pages_of t ++ q) fits.size fits.floor fits.few fits.entries fit.size fit.floor fit.few fit.entries
@@ -101,25 +97,25 @@ record Ended (xs ys : List Judged) (last end : ℕ) (r s : List ℕ) : Type 0 wh
 ended_told : (xs ys : List Judged) (last end : ℕ) (r s : List ℕ) → AllByRecursion IsRecord xs → AllByRecursion IsRecord ys → last < 2 ^ 64 → end < 2 ^ 64
     → (flat_map record_part xs ++ end_bytes last) ++ r ≡ (flat_map record_part ys ++ end_bytes end) ++ s → Ended xs ys last end r s
 ended_told [] [] last end r s fits fit low high same =
-    let behind = (letter_told 69 69 (number_bytes 8 last ++ r) (number_bytes 8 end ++ s) same).1 in
+    let behind = (same_first 69 69 (number_bytes 8 last ++ r) (number_bytes 8 end ++ s) same).1 in
     let ends = told (number 8) (number_is_form 8) last end r s low high behind in
     record { records = refl; last_is = ends.0; rest = ends.1 }
 ended_told [] (y ∷ ys) last end r s fits fit low high same =
-    absurd (let never : 69 ≡ 73 = (letter_told 69 73 (number_bytes 8 last ++ r) (((record_bytes y ++ flat_map record_part ys) ++ end_bytes end) ++ s) same).0 in omega (arith, never))
+    absurd (let never : 69 ≡ 73 = (same_first 69 73 (number_bytes 8 last ++ r) (((record_bytes y ++ flat_map record_part ys) ++ end_bytes end) ++ s) same).0 in omega (arith, never))
 ended_told (x ∷ xs) [] last end r s fits fit low high same =
-    absurd (let never : 73 ≡ 69 = (letter_told 73 69 (((record_bytes x ++ flat_map record_part xs) ++ end_bytes last) ++ r) (number_bytes 8 end ++ s) same).0 in omega (arith, never))
+    absurd (let never : 73 ≡ 69 = (same_first 73 69 (((record_bytes x ++ flat_map record_part xs) ++ end_bytes last) ++ r) (number_bytes 8 end ++ s) same).0 in omega (arith, never))
 ended_told (x ∷ xs) (y ∷ ys) last end r s fits fit low high same =
     let spread : (z : Judged) (zs : List Judged) (n : ℕ) (q : List ℕ) → ((record_bytes z ++ flat_map record_part zs) ++ end_bytes n) ++ q ≡ record_bytes z ++ ((flat_map record_part zs ++ end_bytes n) ++ q) =
     λ z zs n q. ap (λ (l : List ℕ). l ++ q) (append_assoc (record_bytes z) (flat_map record_part zs) (end_bytes n)) ∙ append_assoc (record_bytes z) (flat_map record_part zs ++ end_bytes n) q in
-    let behind = (letter_told 73 73 (((record_bytes x ++ flat_map record_part xs) ++ end_bytes last) ++ r) (((record_bytes y ++ flat_map record_part ys) ++ end_bytes end) ++ s) same).1 in
+    let behind = (same_first 73 73 (((record_bytes x ++ flat_map record_part xs) ++ end_bytes last) ++ r) (((record_bytes y ++ flat_map record_part ys) ++ end_bytes end) ++ s) same).1 in
     let first = told record_form record_is_form x y ((flat_map record_part xs ++ end_bytes last) ++ r) ((flat_map record_part ys ++ end_bytes end) ++ s) fits.0 fit.0 (sym (spread x xs last r) ∙ behind ∙ spread y ys end s) in
     let rest = ended_told xs ys last end r s fits.1 fit.1 low high first.1 in
     record { records = ap (λ z. z ∷ xs) first.0 ∙ ap (λ zs. y ∷ zs) rest.records; last_is = rest.last_is; rest = rest.rest }
 
 -- no record and no end begins as a snapshot does
 no_snapshot : (xs : List Judged) (last : ℕ) (r q : List ℕ) → (flat_map record_part xs ++ end_bytes last) ++ r ≡ 83 ∷ q → ⊥
-no_snapshot [] last r q same = let never : 69 ≡ 83 = (letter_told 69 83 (number_bytes 8 last ++ r) q same).0 in omega (arith, never)
-no_snapshot (x ∷ xs) last r q same = let never : 73 ≡ 83 = (letter_told 73 83 (((record_bytes x ++ flat_map record_part xs) ++ end_bytes last) ++ r) q same).0 in omega (arith, never)
+no_snapshot [] last r q same = let never : 69 ≡ 83 = (same_first 69 83 (number_bytes 8 last ++ r) q same).0 in omega (arith, never)
+no_snapshot (x ∷ xs) last r q same = let never : 73 ≡ 83 = (same_first 73 83 (((record_bytes x ++ flat_map record_part xs) ++ end_bytes last) ++ r) q same).0 in omega (arith, never)
 
 -- ---- behind the header
 
@@ -167,9 +163,9 @@ record Fewer (xs ys : List Judged) (last : ℕ) (r left : List ℕ) : Type 0 whe
 fewer_told : (xs ys : List Judged) (last : ℕ) (r left : List ℕ) → AllByRecursion IsRecord xs → AllByRecursion IsRecord ys → (flat_map record_part xs ++ end_bytes last) ++ r ≡ flat_map record_part ys ++ left → Fewer xs ys last r left
 fewer_told xs [] last r left fits fit same = record { more = xs; records = refl; left_is = sym same }
 fewer_told [] (y ∷ ys) last r left fits fit same =
-    absurd (let never : 69 ≡ 73 = (letter_told 69 73 (number_bytes 8 last ++ r) ((record_bytes y ++ flat_map record_part ys) ++ left) same).0 in omega (arith, never))
+    absurd (let never : 69 ≡ 73 = (same_first 69 73 (number_bytes 8 last ++ r) ((record_bytes y ++ flat_map record_part ys) ++ left) same).0 in omega (arith, never))
 fewer_told (x ∷ xs) (y ∷ ys) last r left fits fit same =
-    let behind = (letter_told 73 73 (((record_bytes x ++ flat_map record_part xs) ++ end_bytes last) ++ r) ((record_bytes y ++ flat_map record_part ys) ++ left) same).1 in
+    let behind = (same_first 73 73 (((record_bytes x ++ flat_map record_part xs) ++ end_bytes last) ++ r) ((record_bytes y ++ flat_map record_part ys) ++ left) same).1 in
     let first = told record_form record_is_form x y ((flat_map record_part xs ++ end_bytes last) ++ r) (flat_map record_part ys ++ left) fits.0 fit.0
     (sym (ap (λ (l : List ℕ). l ++ r) (append_assoc (record_bytes x) (flat_map record_part xs) (end_bytes last)) ∙ append_assoc (record_bytes x) (flat_map record_part xs ++ end_bytes last) r) ∙ behind ∙ append_assoc (record_bytes y) (flat_map record_part ys) left) in
     let rest = fewer_told xs ys last r left fits.1 fit.1 first.1 in
@@ -187,7 +183,7 @@ module _ (t : Transfer) (rest : List ℕ) (is : IsTransfer t) (left : List ℕ) 
       absurd (no_snapshot t.records t.last rest ((number_bytes 8 s.position ++ rest_of t.header.format s) ++ (flat_map record_part records ++ left)) same)
   parts_behind (Some u) None [] own fits tells fit tell are same = inr (record { first = u; first_is = sym own; no_snapshot = refl; no_record = refl; left_is = sym same })
   parts_behind (Some u) None (x ∷ xs) own fits tells fit tell are same =
-      absurd (let never : 83 ≡ 73 = (letter_told 83 73 ((number_bytes 8 u.position ++ rest_of t.header.format u) ++ ((flat_map record_part t.records ++ end_bytes t.last) ++ rest)) ((record_bytes x ++ flat_map record_part xs) ++ left) same).0 in omega (arith, never))
+      absurd (let never : 83 ≡ 73 = (same_first 83 73 ((number_bytes 8 u.position ++ rest_of t.header.format u) ++ ((flat_map record_part t.records ++ end_bytes t.last) ++ rest)) ((record_bytes x ++ flat_map record_part xs) ++ left) same).0 in omega (arith, never))
   parts_behind (Some u) (Some s) records own fits tells fit tell are same =
       let first = snapshot_told t.header.format (least_of t.header.shape) u s ((flat_map record_part t.records ++ end_bytes t.last) ++ rest) (flat_map record_part records ++ left) fits fit tells tell same in
       inl (taken_of (Some s) records (ap Some (sym first.0) ∙ own) (fewer_told t.records records t.last rest left is.records are first.1))

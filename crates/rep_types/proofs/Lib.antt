@@ -1,3 +1,5 @@
+pub mod Choices
+pub mod Lists
 pub mod Disorder
 pub mod Latest
 pub mod Members

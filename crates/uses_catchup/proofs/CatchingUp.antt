@@ -15,6 +15,7 @@ use Rattle.rep_types.specs.Settings.{Setting, has_row}
 use Rattle.rep_types.specs.Entries.{Entry}
 use Rattle.rep_types.specs.Windows.{Window}
 use Rattle.rep_types.specs.Order.{Order, State}
+use Rattle.rep_types.proofs.Lists.{all_at}
 use Rattle.rep_record.specs.Records.{IsRecord}
 use Rattle.rep_disk.specs.declared.disk.Disk.{Ghosts}
 use Rattle.rep_disk.specs.Calls.{Rises}
@@ -95,11 +96,6 @@ module _ {D : Type 0} (g : Ghosts D) (O : Order) (n k : Node) (may : MayCatchUp 
       of_cluster (inr nil) = inr (subst IsNil (sym (is_joiner have is).uuid) nil)
 
 -- ---- lists
-
--- what stands at this place of a list of which each is so
-second : {X : Type 0} (P : X → Type 0) (xs ys : List X) (x : X) → AllByRecursion P (xs ++ x ∷ ys) → P x
-second P [] ys x all = all.0
-second P (y ∷ xs) ys x all = second P xs ys x all.1
 
 -- known bytes that began with these have a known rest
 record HasRest (bytes bs : List ℕ) (left : Option (List ℕ)) : Type 0 where
@@ -250,7 +246,7 @@ module _ {D : Type 0} (g : Ghosts D) (O : Order) (n k : Node) (have : Have) (t :
             by : (more : List Judged) (m : Node) → Holds g m new → (IsNil (facts_of g new).uuid → ⊥) → AreNext m more t.last → AllByRecursion IsRecord (cut.records ++ more) → rest ≡ (flat_map record_part more ++ end_bytes t.last) ++ [] → ⊥
             by [] m standing of comes all same = none (OfEnd t.last) [] given.donated.is_transfer.last same (of, comes ∙ ap delivered standing.facts)
             by (j ∷ more) m standing of comes all same =
-                none (OfRecord j) (((flat_map record_part more) ++ end_bytes t.last) ++ []) (second IsRecord cut.records more j all)
+                none (OfRecord j) (((flat_map record_part more) ++ end_bytes t.last) ++ []) (all_at IsRecord cut.records j more all)
                 (same ∙ ap (λ (bs : List ℕ). bs ++ []) (append_assoc (record_part j) (flat_map record_part more) (end_bytes t.last)) ∙ append_assoc (record_part j) (flat_map record_part more ++ end_bytes t.last) [])
                 (of, record { seqno = comes.0 ∙ ap (λ (s : Standing). delivered s + 1) standing.facts; verdict = sym comes.1 ∙ sym (judges m standing j.item) })
 

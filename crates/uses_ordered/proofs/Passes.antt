@@ -92,10 +92,6 @@ no_more start n m before after first second g place h same = let a = g.count in 
 pub parts : (threads count : ℕ) → (threads - threads / 2) * count + threads / 2 * count ≡ threads * count
 parts threads count = let half : ℕ = threads / 2 in let rest : ℕ = threads - half in let whole : rest + half ≡ threads = omega arith in sym (add-mul rest half count) ∙ ap (λ (z : ℕ). z * count) whole
 
-pub ok_then : {A E : Type 0} {P Q : Type 0} (r : Result A E) → OnOk r P → (P → Q) → OnOk r Q
-ok_then (Ok a) p f = f p
-ok_then (Err e) p f = tt
-
 pub ok_both : {A B E : Type 0} {P Q R : Type 0} (r : Result A E) (s : Result B E) → OnOk r P → OnOk s Q → (P → Q → R) → OnOk (result_and r s) R
 ok_both (Ok a) (Ok b) p q f = f p q
 ok_both (Ok a) (Err e) p q f = tt

@@ -176,10 +176,6 @@ pub by_err : (P : Result (Unit {0}) Refusal → Type 0) (result : Result (Unit {
 by_err P (Ok x) err f = absurd cc
 by_err P (Err r) err f = f r
 
-pub none_left : {A : Type 0} (rest : List A) (n : ℕ) → n ≡ 0 → n ≡ length rest → rest ≡ []
-none_left [] n none size = refl
-none_left (x ∷ rest) n none size = absurd (omega (arith, none, size))
-
 -- ---- what comes of it all
 
 on_ok : {A B : Type 0} (result : Result (Unit {0}) Refusal) → OnOk result A → (A → B) → OnOk result B

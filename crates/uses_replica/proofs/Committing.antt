@@ -1,7 +1,7 @@
 -- Block after block.
 use Rattle.std.proofs.Common.{◌≡◌, ℕ, ◌+◌, List, [], ◌∷◌, ◌++◌, append_assoc, length, map, take, Ok, Err, refl, sym, ap, ◌∙◌, arith}
 use Rattle.std.proofs.lemmas.List.{append-nil, length-append, length-take-le, map-append, take-append-drop}
-use Rattle.std.specs.Prelude.{◌||◌, Bool, true, false, is_some}
+use Rattle.std.specs.Prelude.{◌||◌, false, is_some}
 use Rattle.rep_types.specs.declared.judged.Judged.{Judged}
 use Rattle.rep_types.specs.declared.reply.Reply.{Reply}
 use Rattle.rep_types.specs.declared.refusal.Refusal.{Refusal}
@@ -84,7 +84,3 @@ module _ {D : Type 0} (g : Ghosts D) (joined : RunsAreJoined g) where
       told = told_then came.answers c.works.answers ∙ ap (λ (rs : List Reply). rs ++ acknowledged c.works.answers) came.told ∙ ap (λ (rs : List Reply). map reply_of came.done ++ rs) c.told ∙ append-nil (map reply_of came.done);
       all = tt;
     }
-
-pub not_first : (a b : Bool) → (a || b) ≡ false → a ≡ false
-not_first true b is = is
-not_first false b is = refl

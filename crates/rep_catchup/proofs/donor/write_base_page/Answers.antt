@@ -1,8 +1,9 @@
 use Rattle.std.proofs.Common.{◌<◌, ◌^◌, None, Ok, Err, refl, arith}
 use Rattle.std.proofs.KnownBytes.{Appends-nil}
 use Rattle.std.proofs.lemmas.Result.{err_from_is_err_and}
+use Rattle.rep_types.proofs.Choices.{neither_some}
 use Rattle.rep_catchup.specs.Donating.{KnowsPage, as_seen}
-use Rattle.rep_catchup.proofs.DonateReads.{not_halted, leaves_asked, leaves_passed, leaves_given, leaves_then, leaves_wrote}
+use Rattle.rep_catchup.proofs.DonateReads.{leaves_asked, leaves_passed, leaves_given, leaves_then, leaves_wrote}
 use Rattle.rep_catchup.proofs.DonatePages.{page_held, no_page, page_none, page_there, page_writes, slot_free, slot_held}
 use Rattle.rep_catchup.proofs.donor.write_base_page.Goals as goal
 
@@ -55,7 +56,7 @@ returns-in-None-clause-writes g c =
         slot_free b c.args.number c.from.result o c.in-None.is c.from.ensures c.in_ok-found.ensures.none,
         record {
           there = λ h. tt;
-          of_node = λ n h. no_page b n.base.content c.args.number c.from.result o c.in-None.is c.from.ensures c.in_ok-found.ensures.none (c.in_ok-found.ensures.absent n h (not_halted old.stopped old.engine.halted c.requires));
+          of_node = λ n h. no_page b n.base.content c.args.number c.from.result o c.in-None.is c.from.ensures c.in_ok-found.ensures.none (c.in_ok-found.ensures.absent n h ((neither_some old.stopped old.engine.halted c.requires).1));
         },
         Appends-nil (g.W.Sink.contents c.args.writer.now),
       );

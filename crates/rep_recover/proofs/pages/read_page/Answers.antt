@@ -3,6 +3,7 @@ use Rattle.std.proofs.lemmas.Result.{err_from_is_err_and}
 use Rattle.std.proofs.lemmas.Option.{same_Some}
 use Rattle.rep_types.specs.declared.refusal.Refusal.{Refusal}
 use Rattle.rep_types.specs.declared.refusal.Part.TheVariants.{Pages}
+use Rattle.rep_types.proofs.Choices.{of_no_failure}
 use Rattle.rep_disk.specs.History.{History, seen, failed}
 use Rattle.rep_layout.specs.declared.super_body.SuperBody.{SuperBody}
 use Rattle.rep_layout.specs.declared.place.Place.TheVariants.{Page}
@@ -11,7 +12,6 @@ use Rattle.rep_cells.specs.Readings.{reading_of}
 use Rattle.rep_pages.specs.Pages.{IsPageBody}
 use Rattle.rep_recover.specs.Looking.{RefusesPart, HasBadPage}
 use Rattle.rep_recover.proofs.Choosing.{readable}
-use Rattle.rep_recover.proofs.Reading.{at_no_err}
 use Rattle.rep_recover.proofs.pages.read_page.Goals as goal
 
 pub returns-in_err-read_body-clause-refused : goal.returns-in_err-read_body-clause-refused
@@ -28,7 +28,7 @@ returns-in_err-read_body-clause-refused g c =
     let refuses : P c.in_err-read_body.field-0.0 = inr (
       e.refused,
       λ honest none.
-          let shown : Some bytes ≡ r place = at_no_err _ c.read_area.result (sym c.is_err.ensures.value ∙ c.if-is_err.false) (c.read_area.ensures.read honest (readable l h place none)) in
+          let shown : Some bytes ≡ r place = of_no_failure {P = _} c.read_area.result (sym c.is_err.ensures.value ∙ c.if-is_err.false) (c.read_area.ensures.read honest (readable l h place none)) in
           record {
             number = c.args.number;
             slot = c.in-In.slot;

@@ -1,9 +1,10 @@
-use Rattle.std.proofs.Common.{◌≡◌, ◌∙◌, sym, ap, ℕ, ◌+◌, ◌≤◌, List, Result, Ok, Err, OnOk, [], ◌∷◌, ◌++◌, take, append-nil, append_assoc, codes}
+use Rattle.std.proofs.Common.{◌≡◌, ◌∙◌, sym, ap, ℕ, ◌+◌, ◌≤◌, List, [], ◌∷◌, ◌++◌, take, append-nil, append_assoc, codes}
 use Rattle.std.specs.Fmt.{decimal}
 use Rattle.std.specs.List.{flat_map}
 use Rattle.std.proofs.lemmas.List.{flat_map_more, take_all, take_more}
 use Rattle.rep_types.specs.Entries.{Entry}
 use Rattle.rep_types.specs.Gtids.{Gtid, gtid_text}
+use Rattle.rep_types.proofs.Choices.{success_weaker}
 use Rattle.rep_script.proofs.answers.put_state.Goals as goal
 
 -- what stands before the window
@@ -22,10 +23,6 @@ loop-entry-preserved c = let window = c.args.window.now in let i = c.loop-entry.
     c.in_ok-put-2.ensures ∙ ap (λ l. l ++ 32 ∷ decimal c.seqno-seqno.result) c.loop-entry.invariant ∙ ap (λ n. (front c.args.gtid c.args.base ++ flat_map seqno_of (take i window)) ++ 32 ∷ decimal n) c.seqno-seqno.ensures
     ∙ flat_map_more seqno_of (front c.args.gtid c.args.base) (take i window) e ∙ ap (λ l. front c.args.gtid c.args.base ++ flat_map seqno_of l) (sym more)
 
-over_ok : {T E P Q : Type 0} (r : Result T E) → (P → Q) → OnOk r P → OnOk r Q
-over_ok (Ok x) f h = f h
-over_ok (Err e) f h = tt
-
 pub returns : goal.returns
 returns c = let window = c.args.window.now in let i = c.loop-entry.entry-index in let before = front c.args.gtid c.args.base in
-    over_ok c.put-2.result (λ is. is ∙ ap (λ l. l ++ 10 ∷ []) c.loop-entry.invariant ∙ append_assoc before (flat_map seqno_of (take i window)) (10 ∷ []) ∙ ap (λ l. before ++ (flat_map seqno_of l ++ 10 ∷ [])) (take_all i window c.loop-entry-test.false)) c.put-2.ensures
+    success_weaker c.put-2.result c.put-2.ensures (λ is. is ∙ ap (λ l. l ++ 10 ∷ []) c.loop-entry.invariant ∙ append_assoc before (flat_map seqno_of (take i window)) (10 ∷ []) ∙ ap (λ l. before ++ (flat_map seqno_of l ++ 10 ∷ [])) (take_all i window c.loop-entry-test.false))

@@ -1,10 +1,11 @@
 use Rattle.std.proofs.Common.{rules, ◌||◌, ◌∙◌, is_some, inl, inr, refl, sym, subst}
 use Rattle.std.specs.Prelude.{IsFalse, ⊤}
 use Rattle.std.proofs.KnownBytes.{Keeps-refl}
+use Rattle.rep_types.proofs.Choices.{neither_some}
 use Rattle.uuid.specs.Parts.{is_nil_bytes}
 use Rattle.rep_replica.specs.Replicas.{facts_of}
 use Rattle.rep_replica.specs.SettlingLaws.{settling_stays, settling_serves}
-use Rattle.rep_serve.proofs.Settling.{neither, not_refused, settle_own}
+use Rattle.rep_serve.proofs.Settling.{not_refused, settle_own}
 use Rattle.rep_script.proofs.Noting.{goes_on, own_stops}
 use Rattle.rep_serve.proofs.serve.serve_text.Goals as goal
 
@@ -23,7 +24,7 @@ serve_settled-requires-clause-running g c κs within =
     let stands = not_refused (c.args.replica.stopped || is_some c.args.replica.engine.halted) _ c.settle.result c.in_default.field-0 _ c.in_default.is c.settle.ensures.stopped in
     let works = rw c.in_default.is at (c.settle.ensures.works stands) in
     let serves = settling_serves works.events works.answers (facts_of g.D.Disk c.args.replica) (facts_of g.D.Disk c.settle.new.self) works.ends works.moves in
-    let ran = neither c.settle.new.self.stopped c.settle.new.self.engine.halted (serves.stopped ∙ stands) in
+    let ran = neither_some c.settle.new.self.stopped c.settle.new.self.engine.halted (serves.stopped ∙ stands) in
     record { inside = ran.0; device = ran.1 }
 
 pub serve_settled-requires-clause-defined : goal.serve_settled-requires-clause-defined

@@ -1,19 +1,15 @@
 use Rattle.std.proofs.Common.{◌≡◌, ◌+◌, ◌-◌, List, [], ◌∷◌, ◌++◌, length, get_or, refl, ap, ◌∙◌, arith}
 use Rattle.rep_types.specs.declared.item.Item.{Item}
 use Rattle.rep_types.specs.Order.{Order, no_item, item}
+use Rattle.rep_types.proofs.Lists.{get_behind}
 use Rattle.rep_types.proofs.Histories.{length_history, history_at, take_history, verdict_take, history_push_judged}
 use Rattle.rep_types.proofs.laws.history_by_items.Goals as goal
-
--- what stands behind a list
-behind : {X : Type 0} (xs ys : List X) (x d : X) → get_or (xs ++ x ∷ ys) (length xs) d ≡ x
-behind [] ys x d = refl
-behind (y ∷ xs) ys x d = behind xs ys x d
 
 -- the item that so many stand before
 item_behind : (before rest : Order) (i : Item) → item (before ++ i ∷ rest) (length before + 1) ≡ i
 item_behind before rest i =
     let same : length before + 1 - 1 ≡ length before = omega arith in
-    ap (λ k. get_or (before ++ i ∷ rest) k no_item) same ∙ behind before rest i no_item
+    ap (λ k. get_or (before ++ i ∷ rest) k no_item) same ∙ get_behind before rest i no_item
 
 pub returns : goal.returns
 returns c = record {

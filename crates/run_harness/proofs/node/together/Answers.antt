@@ -1,17 +1,13 @@
-use Rattle.std.proofs.Common.{◌≡◌, refl, sym, ◌∙◌, Bool, true, false, ◌||◌}
+use Rattle.std.proofs.Common.{◌≡◌, sym, ◌∙◌, false}
 use Rattle.std.specs.Prelude.{is_some}
+use Rattle.rep_types.proofs.Choices.{or_both}
 use Rattle.run_harness.proofs.node.together.Goals.{then-stopped, else-stopped}
 use Rattle.run_harness.proofs.node.together.Goals as goal
-
--- what was not stopped from outside
-neither : (was halted : Bool) → (was || halted) ≡ false → was ≡ false
-neither true halted e = absurd cc
-neither false halted e = refl
 
 runs : (g : _) (c : goal.After-into_parts-certifier g) → c.if-stopped.stopped ≡ false → c.args.node.stopped ≡ false
 runs g c e = elim c.if-stopped.branch [
   | then-stopped w ↦ absurd cc
-  | else-stopped w ↦ neither c.args.node.stopped (is_some c.args.node.engine.halted) (sym w.is_stopped-stopped.ensures ∙ sym w.stopped-is ∙ e)
+  | else-stopped w ↦ (or_both c.args.node.stopped (is_some c.args.node.engine.halted) (sym w.is_stopped-stopped.ensures ∙ sym w.stopped-is ∙ e)).0
 ]
 
 pub from_parts-requires : goal.from_parts-requires

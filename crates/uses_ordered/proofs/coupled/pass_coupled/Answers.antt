@@ -1,4 +1,5 @@
 use Rattle.std.proofs.Common.{rules, ◌≡◌, ◌<◌, ◌≤◌, refl, ◌++◌, ℕ, ◌+◌, ◌*◌, List, [], ◌∷◌, length, arith, sym, ap, ◌∙◌, subst}
+use Rattle.rep_types.proofs.Choices.{success_weaker}
 use Rattle.rep_ordered.specs.declared.view.Hold.{Hold}
 use Rattle.rep_ordered.specs.declared.view.View.{View}
 use Rattle.rep_ordered.specs.Counts.{times}
@@ -7,7 +8,7 @@ use Rattle.rep_ordered.specs.Going.{Went}
 use Rattle.rep_ordered.specs.GoingLaws.{goes_entered, goes_on}
 use Rattle.rep_ordered.specs.Seats.{Place}
 use Rattle.uses_ordered.specs.Passing.{HavePassed}
-use Rattle.uses_ordered.proofs.Passes.{all_done, ok_then}
+use Rattle.uses_ordered.proofs.Passes.{all_done}
 use Rattle.uses_ordered.proofs.coupled.pass_coupled.Goals as goal
 
 pub enter-requires-2-clause-ticket : goal.enter-requires-2-clause-ticket
@@ -27,4 +28,4 @@ returns-in-Ok-clause-done g c = let t : ℕ = c.claim-ticket.result in let e = c
     let first = goes_entered _ _ _ _ 0 t 1 c.claim-ticket.new.seat.view c.enter.new.seat.view c.in_ok-first.first e in let second = goes_entered _ _ _ _ 1 t 1 c.enter.new.seat.view c.enter-2.new.seat.view c.in-Ok.second f in
     let own : w.own ≡ v.own ++ t ∷ [] = c.leave_both.ensures.own ∙ (ap (λ (z : View _ ℕ). z.own) f.view ∙ (ap (λ (z : View _ ℕ). z.own) e.view ∙ ap (λ (z : Place _ ℕ). z.view.own) seat)) in
     let goes = goes_on _ _ _ first (goes_on _ _ _ second went.goes) in let start : c.claim-ticket.new.seat.view.reached ≡ v.reached = ap (λ (z : Place _ ℕ). z.view.reached) seat in
-    ok_then c.leave_both.result c.leave_both.ensures.reached (λ reached. all_done v w t own reached.0 reached.1 (subst (λ l. reached_at 0 l ≤ reached_at 0 w.reached) start (goes.reached 0)) (subst (λ l. reached_at 1 l ≤ reached_at 1 w.reached) start (goes.reached 1)) c.requires.done)
+    success_weaker c.leave_both.result c.leave_both.ensures.reached (λ reached. all_done v w t own reached.0 reached.1 (subst (λ l. reached_at 0 l ≤ reached_at 0 w.reached) start (goes.reached 0)) (subst (λ l. reached_at 1 l ≤ reached_at 1 w.reached) start (goes.reached 1)) c.requires.done)

@@ -1,10 +1,11 @@
-use Rattle.std.proofs.Common.{List, Result, refl, sym, subst}
+use Rattle.std.proofs.Common.{◌∙◌, List, Result, refl, sym, subst}
 use Rattle.std.specs.Prelude.{IsOk}
 use Rattle.rep_pages.specs.Rows.{Rows}
 use Rattle.rep_types.specs.declared.refusal.Refusal.{Refusal}
 use Rattle.rep_types.specs.declared.refusal.Refusal.TheVariants.{Malformed}
+use Rattle.rep_types.proofs.Lists.{empty_by_length}
 use Rattle.uses_replica.specs.Bringing.{PutsAll}
-use Rattle.uses_replica.proofs.Bringing.{Put, put_none, put_more, put_refused, put_all, put_some, ok_of, refused_page, same_coming, by_err, none_left}
+use Rattle.uses_replica.proofs.Bringing.{Put, put_none, put_more, put_refused, put_all, put_some, ok_of, refused_page, same_coming, by_err}
 use Rattle.uses_replica.proofs.install.put_all.Goals as goal
 
 pub loop-page-init : goal.loop-page-init
@@ -31,5 +32,5 @@ returns-in_err-put_page g c =
 
 pub returns : goal.returns
 returns g c =
-    let none = none_left c.loop-page.page-iterator.rest.items c.loop-page.page-iterator.rest.len c.in-None.ensures.steps.0 c.loop-page.page-iterator.rest.ok.0 in
+    let none = empty_by_length c.loop-page.page-iterator.rest.items (sym c.loop-page.page-iterator.rest.ok.0 ∙ c.in-None.ensures.steps.0) in
     put_all g.D.Disk c.args.pages.items c.args.installation.now c.loop-page.installation (subst (λ (ps : List (_ × Rows)). Put g.D.Disk c.args.pages.items ps c.args.installation.now c.loop-page.installation) none c.loop-page.invariant)

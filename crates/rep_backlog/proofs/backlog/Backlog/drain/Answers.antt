@@ -1,4 +1,4 @@
-use Rattle.std.proofs.Common.{rules, ◌≡◌, ◌+◌, ◌<◌, List, [], ◌∷◌, ◌++◌, length, drop, slice_get, Some, true, sym, ap, ◌∙◌, subst, arith}
+use Rattle.std.proofs.Common.{rules, ◌≡◌, ◌+◌, ◌-◌, ◌<◌, List, [], ◌∷◌, ◌++◌, length, drop, slice_get, Some, true, sym, ap, ◌∙◌, subst, arith}
 use Rattle.rep_types.specs.declared.judged.Judged.{Judged}
 use Rattle.rep_record.specs.Blocks.{has_room}
 use Rattle.rep_record.specs.Fronts.{fitting}
@@ -17,15 +17,17 @@ loop-first-preserved c =
     let room : has_room c.loop-first.builder j ≡ true = sym c.if-not-push.ensures.room in
     let inside : m < length all = more_than all m j at in
     let built : c.push.new.self ≡ c.loop-first.builder ++ j ∷ [] = rw room at c.push.ensures.after in
-    let left : c.pop_front.new.self.items ≡ drop 1 here = ap (λ b. b.items) c.pop_front.ensures.items in
-    let same : fitting c.push.new.self c.pop_front.new.self.items ≡ fitting (c.loop-first.builder ++ j ∷ []) (drop 1 here) =
-    ap (λ (b : List Judged). fitting b c.pop_front.new.self.items) built ∙ ap (fitting (c.loop-first.builder ++ j ∷ [])) left in
+    let some : 0 < length here = more_than here 0 j first in
+    let but_one : length here - (c.len.result - 1) ≡ 1 = omega (arith, c.len.ensures, some) in
+    let left : c.truncate_front.new.self.items ≡ drop 1 here = ap (λ b. b.items) c.truncate_front.ensures ∙ ap (λ n. drop n here) but_one in
+    let same : fitting c.push.new.self c.truncate_front.new.self.items ≡ fitting (c.loop-first.builder ++ j ∷ []) (drop 1 here) =
+    ap (λ (b : List Judged). fitting b c.truncate_front.new.self.items) built ∙ ap (fitting (c.loop-first.builder ++ j ∷ [])) left in
     let one : fitting c.loop-first.builder here ≡ fitting (c.loop-first.builder ++ j ∷ []) (drop 1 here) + 1 =
     fitting_first c.loop-first.builder here j first room in
     record {
       within = omega arith;
       few = c.loop-first.invariant.few;
-      room = ap (λ b. b.capacity) c.pop_front.ensures.items ∙ c.loop-first.invariant.room;
+      room = ap (λ b. b.capacity) c.truncate_front.ensures ∙ c.loop-first.invariant.room;
       rest = left ∙ (ap (drop 1) c.loop-first.invariant.rest ∙ rest_after all m j at);
       gathered = built ∙ (ap (λ (b : List Judged). b ++ j ∷ []) c.loop-first.invariant.gathered ∙ sym (with_one_more c.args.builder.now all m j at));
       counted = omega (arith, c.loop-first.invariant.counted, one, same);

@@ -1,6 +1,7 @@
 use Rattle.std.proofs.Common.{◌≡◌, ◌∙◌, sym, ap, subst}
 use Rattle.rep_types.specs.declared.refusal.Refusal.TheVariants.{Stopped}
 use Rattle.rep_types.specs.declared.refusal.Part.TheVariants.{Pages as in_pages}
+use Rattle.rep_types.proofs.Choices.{none_not_some}
 use Rattle.rep_disk.specs.History.{seen}
 use Rattle.rep_layout.specs.declared.place.Layout.{Layout}
 use Rattle.rep_layout.specs.declared.super_body.SuperBody.{SuperBody}
@@ -11,7 +12,7 @@ use Rattle.rep_pool.specs.BasePages.{IsPooled, IsPageAsSpelled}
 use Rattle.rep_engine.specs.Engines.{Engine, IsEngine}
 use Rattle.rep_engine.specs.Reading.{halted_by}
 use Rattle.rep_engine.proofs.Refusing.{passed_on}
-use Rattle.rep_engine.proofs.Answering.{inside, runs_within, not_both}
+use Rattle.rep_engine.proofs.Answering.{inside, runs_within}
 use Rattle.rep_engine.proofs.Asking.{asks_stopped}
 use Rattle.rep_engine.proofs.Pools.{pooled_as}
 use Rattle.rep_engine.proofs.DonorPages.{GivesPage, optional, page_comes, page_elsewise}
@@ -63,7 +64,7 @@ returns-in_err-running g c =
       none = tt;
       holds = λ n holds other. holds;
       page = λ n holds. tt;
-      absent = λ n holds runs. absurd (not_both c.args.self.now.halted c.in_err-running.ensures.stopped.1 runs);
+      absent = λ n holds runs. absurd (none_not_some c.args.self.now.halted c.in_err-running.ensures.stopped.1 runs);
       whole = λ n holds corrupt. absurd cc;
       spelled = λ honest. page_elsewise _ c.args.self.now.checkpoint.base c.args.page Stopped (λ is. absurd cc);
     })

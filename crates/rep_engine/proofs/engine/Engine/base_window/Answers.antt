@@ -14,8 +14,9 @@ use Rattle.rep_engine.proofs.Pools.{pooled_as, pooled_read}
 use Rattle.rep_engine.proofs.Refusing.{passed_on}
 use Rattle.rep_engine.proofs.Answering.{inside, runs_within}
 use Rattle.rep_engine.proofs.Asking.{holds_read, asks_found, asks_failed, asks_stopped}
-use Rattle.rep_engine.proofs.DonorPages.{if_read, window_read, window_spelled, window_elsewise}
+use Rattle.rep_engine.proofs.DonorPages.{window_read, window_spelled, window_elsewise}
 use Rattle.rep_types.specs.declared.refusal.Part.TheVariants.{Window as in_window}
+use Rattle.rep_types.proofs.Choices.{of_answer}
 use Rattle.rep_engine.proofs.engine.Engine.base_window.Goals as goal
 use Rattle.rep_engine.proofs.engine.Engine.base_window.Goals.{After-read_beside}
 
@@ -25,7 +26,7 @@ read g c n holds =
     let ok : IsOk c.read_area.result = search rules in
     window_read g.D.Disk _ c.args.self.now c.self.view_is c.self.invariant.0 (runs_within c.self.view_is c.in_ok-running.ensures.runs) n holds
     c.base-base.result.now (in_window_area c.of.result) c.read_area.new.room c.read_beside.result c.base-base.ensures.base (ap in_window_area c.of.ensures)
-    (λ honest s assigns sure. if_read c.read_area.result ok (c.read_area.ensures.shown honest s assigns sure)) c.read_beside.ensures.only
+    (λ honest s assigns sure. of_answer c.read_area.result ok (c.read_area.ensures.shown honest s assigns sure)) c.read_beside.ensures.only
 
 pub invariant_of-self-2 : goal.invariant_of-self-2
 invariant_of-self-2 g c =
@@ -47,7 +48,7 @@ returns g c =
       window = λ n holds. subst (λ (r : Result Window Refusal). IfOk r (λ w. w.kept ≡ n.base.kept)) (sym (read g c n holds)) refl;
       whole = λ n holds corrupt. (let was = read g c n holds in absurd cc);
       spelled = λ is_honest. window_spelled g.D.Disk _ c.args.self.now c.self.view_is c.base-base.result.now (in_window_area c.of.result) c.read_area.new.room c.read_beside.result c.base-base.ensures.base (ap in_window_area c.of.ensures)
-          (λ honest readable. if_read c.read_area.result ok (c.read_area.ensures.read honest readable)) c.read_beside.ensures.only c.read_beside.ensures.found is_honest (c.in_ok-running.ensures.readable is_honest (in_window_area (side_of c.args.self.now.checkpoint.base.number)));
+          (λ honest readable. of_answer c.read_area.result ok (c.read_area.ensures.read honest readable)) c.read_beside.ensures.only c.read_beside.ensures.found is_honest (c.in_ok-running.ensures.readable is_honest (in_window_area (side_of c.args.self.now.checkpoint.base.number)));
     }
 
 -- ---- where the device fails

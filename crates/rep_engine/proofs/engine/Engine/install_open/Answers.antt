@@ -1,10 +1,11 @@
 use Rattle.std.proofs.Common.{Ok, refl, sym, ap, subst, ◌∙◌}
 use Rattle.std.specs.Prelude.{IsOk, IsErr}
+use Rattle.rep_types.proofs.Choices.{of_success}
 use Rattle.rep_disk.specs.Moments.{LeavesOnly}
 use Rattle.rep_checkpoint.specs.Moves.{next_part}
 use Rattle.rep_checkpoint.specs.Coming.{Coming}
 use Rattle.rep_engine.specs.Installing.{MeansEither}
-use Rattle.rep_engine.proofs.Installing.{ok_of, write_to, written, stable_either, stable_leaves, failed, failed_then, not_taken, takes_then, took_place}
+use Rattle.rep_engine.proofs.Installing.{write_to, written, stable_either, stable_leaves, failed, failed_then, not_taken, takes_then, took_place}
 use Rattle.rep_engine.proofs.engine.Engine.install_open.Goals as goal
 
 pub returns-in_err-install_next-clause-takes : goal.returns-in_err-install_next-clause-takes
@@ -40,7 +41,7 @@ returns-clause-takes g c = λ n y holds.
     (record {
       holds =
           took_place g.D.Disk g.met.D.Disk.sized c.installations_leave_the_old_or_the_new.ensures c.installations_stand_beside.ensures c.install_next.new.self c.install_sync.new.self c.raise_to.new.self c.install_sync.ensures.rest w.engine w.runs n y c.install_next.new.coming w.holds
-          c.install_sync.result c.install_sync.ensures.call c.install_sync.ensures.halted c.install_sync.ensures.settles synced (ap (λ (k : Coming). k.part) w.gone_is ∙ ap next_part c.requires.filled) w.beside (ok_of c.install_sync.result synced c.install_sync.ensures.log) c.raise_to.ensures.taken
+          c.install_sync.result c.install_sync.ensures.call c.install_sync.ensures.halted c.install_sync.ensures.settles synced (ap (λ (k : Coming). k.part) w.gone_is ∙ ap next_part c.requires.filled) w.beside (of_success c.install_sync.result synced c.install_sync.ensures.log) c.raise_to.ensures.taken
           c.raise_to.ensures.disk c.raise_to.ensures.restarts c.installations_make_the_node.ensures c.nodes_leave_their_fronts.ensures c.images_read_as_allowed.ensures c.versions_follow_the_items.ensures;
       either = tt;
       leaves = subst (λ d. LeavesOnly (g.D.Disk.history c.install_next.new.self.disk) (g.D.Disk.history d) (MeansEither n c.install_next.new.coming.next.super y)) (sym c.raise_to.ensures.disk)

@@ -1,8 +1,9 @@
 use Rattle.std.proofs.Common.{refl, sym, ap, subst, ◌∙◌}
 use Rattle.std.specs.Prelude.{IsOk, IsErr}
+use Rattle.rep_types.proofs.Choices.{of_success}
 use Rattle.rep_checkpoint.specs.Coming.{Coming}
 use Rattle.rep_engine.specs.Installing.{HoldsBoth}
-use Rattle.rep_engine.proofs.Installing.{ok_of, opens_filled, write_to, written, stable_to, stable_either, stable_leaves, failed, failed_then, done_then}
+use Rattle.rep_engine.proofs.Installing.{opens_filled, write_to, written, stable_to, stable_either, stable_leaves, failed, failed_then, done_then}
 use Rattle.rep_engine.proofs.engine.Engine.install_step.Goals as goal
 
 pub returns-in_err-install_next-clause-goes : goal.returns-in_err-install_next-clause-goes
@@ -38,4 +39,4 @@ returns-clause-goes g c = λ n y holds.
     (subst (λ (k : Coming). HoldsBoth g.D.Disk n y c.install_sync.new.self k) (sym c.synced.ensures)
     (stable_to g.D.Disk g.met.D.Disk.sized c.installations_leave_the_old_or_the_new.ensures c.installations_stand_beside.ensures c.install_next.new.self c.install_sync.new.self c.install_sync.ensures.rest w.engine w.runs n y c.install_next.new.coming w.holds
     c.install_sync.result c.install_sync.ensures.call c.install_sync.ensures.halted c.install_sync.ensures.settles c.installations_make_the_node.ensures
-    (λ opens. opens_filled c.args.coming.now.part c.requires.due c.requires.closed (sym (ap (λ (k : Coming). k.part) w.gone_is) ∙ opens)) w.beside.resting (ok_of c.install_sync.result synced c.install_sync.ensures.log) synced))
+    (λ opens. opens_filled c.args.coming.now.part c.requires.due c.requires.closed (sym (ap (λ (k : Coming). k.part) w.gone_is) ∙ opens)) w.beside.resting (of_success c.install_sync.result synced c.install_sync.ensures.log) synced))

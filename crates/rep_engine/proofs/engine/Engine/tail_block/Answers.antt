@@ -5,11 +5,12 @@ use Rattle.std.specs.Prelude.{nat_lt}
 use Rattle.rep_record.specs.Blocks.{IsBlock}
 use Rattle.rep_cells.specs.Device.{disk_of, layout_of}
 use Rattle.rep_engine.specs.Engines.{Engine}
-use Rattle.rep_engine.proofs.Answering.{inside, runs_within, not_both}
+use Rattle.rep_engine.proofs.Answering.{inside, runs_within}
 use Rattle.rep_engine.proofs.Asking.{holds_read, asks_none, asks_found, asks_failed, asks_stopped}
 use Rattle.rep_engine.proofs.Donating.{is_past, is_within, tail_block, tail_whole, block_spelled, none_spelled}
 use Rattle.rep_engine.proofs.Refusing.{passed_on}
 use Rattle.rep_types.specs.declared.refusal.Part.TheVariants.{Log as in_log}
+use Rattle.rep_types.proofs.Choices.{none_not_some}
 use Rattle.rep_engine.proofs.engine.Engine.tail_block.Goals as goal
 use Rattle.rep_engine.proofs.engine.Engine.tail_block.Goals.{After-block_in, After-next}
 
@@ -106,7 +107,7 @@ returns-in_err-running g c =
     rw (passed_on c.from_residual.result c.in_err-running.field-0.0 c.from_residual.ensures.1 c.in_err-running.ensures.stopped.0) (record {
       asks = asks_stopped g.D.Disk in_log c.args.self.now c.in_err-running.ensures.stopped.1;
       none = tt;
-      behind = λ past runs. absurd (not_both c.args.self.now.halted c.in_err-running.ensures.stopped.1 runs);
+      behind = λ past runs. absurd (none_not_some c.args.self.now.halted c.in_err-running.ensures.stopped.1 runs);
       fits = λ other. absurd (other refl);
       form = tt;
       holds = λ n holds other. holds;

@@ -1,13 +1,14 @@
 use Rattle.std.proofs.Common.{◌≡◌, ℕ, ◌≤◌, true, false, None, Err, inl, inr, refl, sym, ap, subst, ◌∙◌, arith}
 use Rattle.std.specs.Prelude.{is_some}
 use Rattle.rep_types.specs.declared.refusal.Refusal.TheVariants.{DiskFault}
+use Rattle.rep_types.proofs.Choices.{none_by_test}
 use Rattle.rep_engine.specs.Engines.{durable_of}
 use Rattle.rep_stations.specs.Judging.{Legal}
 use Rattle.rep_node.specs.Homes.{Start, DeskAt, values_of}
 use Rattle.rep_node.specs.Keeping.{AtDesk}
 use Rattle.rep_node.specs.Reading.{RefusesAsked}
 use Rattle.rep_node.proofs.Keeps.{desk_grown}
-use Rattle.rep_node.proofs.Asks.{at_read, none_of, only_err, refusals_asked, rows_asked, this_err}
+use Rattle.rep_node.proofs.Asks.{at_read, only_err, refusals_asked, rows_asked, this_err}
 use Rattle.rep_node.proofs.node.Node.ask.Given.{Over}
 use Rattle.rep_node.proofs.node.Node.ask.Goals as goal
 use Rattle.rep_node.proofs.node.Node.ask.Goals.{After-look_up-row, After-is_stopped, After-leave_desk}
@@ -61,7 +62,7 @@ returns-then-is_stopped-clause-last g c = λ all other. absurd (other (faulted g
 -- ---- the engine works
 
 works : (g : Over) (c : After-is_stopped g) → c.is_stopped.result ≡ false → c.look_up-row.new.engine.halted ≡ None
-works g c running = none_of c.look_up-row.new.engine.halted (sym (rw c.get.ensures at c.is_stopped.ensures) ∙ running)
+works g c running = none_by_test c.look_up-row.new.engine.halted (sym (rw c.get.ensures at c.is_stopped.ensures) ∙ running)
 
 pub leave_desk-requires-clause-at : goal.leave_desk-requires-clause-at
 leave_desk-requires-clause-at g c = let at = goal.at.leave_desk-requires-clause-at g c in (c.args.seat.now.view, read_at g at.After-look_up-row c.in_ok-desk.ensures.at 0 (λ _. works g at.After-is_stopped c.if-is_stopped.false))

@@ -1,9 +1,10 @@
 use Rattle.std.proofs.Common.{rules, ◌≡◌, ◌+◌, ◌≤◌, List, [], ◌∷◌, ◌++◌, length, Option, take, arith, sym, ap, ◌∙◌, subst}
 use Rattle.std.specs.Slots.{slots_items, slots_len, slots_counts}
+use Rattle.std.proofs.lemmas.List.{take_all}
 use Rattle.rep_ordered.specs.declared.view.View.{View}
 use Rattle.rep_ordered.specs.Ends.{Closed}
 use Rattle.rep_ordered.specs.Seats.{Place}
-use Rattle.rep_ordered.proofs.Closing.{closes, emptied, take_next, take_whole}
+use Rattle.rep_ordered.proofs.Closing.{closes, emptied, take_next}
 use Rattle.rep_ordered.proofs.lock.OrderedLock.close.Goals as goal
 
 pub loop-station-preserved : goal.loop-station-preserved
@@ -20,7 +21,7 @@ loop-station-preserved g c = let inv = c.loop-station.invariant in let s = c.loo
 pub returns-clause-values : goal.returns-clause-values
 returns-clause-values g c = let inv = c.loop-station.invariant in let done = c.close_with-closed.result.slots in let counts = slots_counts done in let word_counts = slots_counts c.close_with-closed.result.words in let end = c.loop-station-test.false in
     let past : length (slots_items done) ≤ c.loop-station.station = search rules in
-    let all : c.loop-station.values.items ≡ slots_items done = inv.4 ∙ take_whole (slots_items done) c.loop-station.station past in
+    let all : c.loop-station.values.items ≡ slots_items done = inv.4 ∙ take_all c.loop-station.station (slots_items done) past in
     let is = ap (λ (z : Place g.row.V.Denot g.row.E.Denot). z.view) c.seat.view_is in
     let every = subst (λ (z : View g.row.V.Denot g.row.E.Denot). z.allowance + length z.own ≡ z.whole) (sym is) c.requires.all in
     let wide : length (slots_items c.close_with-closed.result.words) ≡ length (slots_items done) + 2 = (let a = c.close_with-closed.ensures.counts in let a0 = a.0 in let a1 = a.1 in let b = c.self.invariant.0 in omega arith) in

@@ -1,4 +1,4 @@
-use Rattle.std.proofs.Common.{◌≡◌, List, ℕ, ◌++◌, ◌∷◌, [], true, ap, sym, ◌∙◌}
+use Rattle.std.proofs.Common.{◌≡◌, List, ℕ, ◌++◌, ◌∷◌, [], true, refl, ap, sym, ◌∙◌}
 use Rattle.rep_types.specs.declared.judged.Judged.{Judged}
 use Rattle.rep_record.specs.Blocks.{has_room, filled_by, gathered_in, IsGathered}
 use Rattle.rep_record.proofs.Gathering.{gathered_more}
@@ -16,9 +16,9 @@ gathered c =
     let view : c.args.self.now ≡ gathered_in c.self.inside.count c.self.inside.bytes.items = sym c.self.view_is in
     let filled : c.take.new.self ≡ filled_by (gathered_in c.self.inside.count c.self.inside.bytes.items ++ c.args.judged.now ∷ []) =
     rw (takes c) at (c.take.ensures.after c.args.self.now c.room-room.ensures) ∙ ap (λ (js : List Judged). filled_by (js ++ c.args.judged.now ∷ [])) view in
-    let there = c.put_bytes.ensures.bytes ∙ ap (λ (xs : List ℕ). c.self.inside.bytes.items ++ xs) (c.as_slice.ensures.value ∙ c.in-Some.ensures.bytes.1) in
+    let there = c.put_bytes.ensures.bytes ∙ ap (λ (xs : List ℕ). c.self.inside.bytes.items ++ xs) (c.as_slice.ensures.value ∙ c.if-not-put_spelling.ensures.bytes) in
     rw (c.first-self-inside.ensures, c.count-self-inside.ensures.count)
-    (gathered_more c.self.inside.first c.self.inside.count c.self.inside.bytes.items c.put_bytes.new.out.items c.args.judged.now c.take.new.self c.self.invariant c.in-Some.ensures.bytes.0
+    (gathered_more c.self.inside.first c.self.inside.count c.self.inside.bytes.items c.put_bytes.new.out.items c.args.judged.now c.take.new.self c.self.invariant (c.if-not-put_spelling.ensures.record refl)
     (ap (λ (js : List Judged). has_room js c.args.judged.now) c.self.view_is ∙ takes c) filled there)
 
 pub invariant_of-self : goal.invariant_of-self

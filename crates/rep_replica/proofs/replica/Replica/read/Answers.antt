@@ -1,5 +1,6 @@
-use Rattle.std.proofs.Common.{◌≡◌, Bool, true, false, refl, sym, ap, subst, ◌∙◌}
-use Rattle.std.specs.Prelude.{◌||◌, is_some}
+use Rattle.std.proofs.Common.{◌≡◌, true, false, refl, sym, ap, subst, ◌∙◌}
+use Rattle.std.specs.Prelude.{is_some}
+use Rattle.rep_types.proofs.Choices.{or_both}
 use Rattle.rep_steps.specs.declared.event.Event.TheVariants.{Read}
 use Rattle.rep_engine.specs.Engines.{Engine}
 use Rattle.rep_engine.specs.Holding.{row}
@@ -16,16 +17,11 @@ old g c = record { engine = c.self.inside.engine; backlog = c.self.inside.backlo
 abbrev new : (g : _) (c : goal.After-read g) → Replica g.row.D.Denot
 new g c = record { engine = c.read.new.self; backlog = c.self.inside.backlog; certifier = c.self.inside.certifier; stopped = c.self.inside.stopped }
 
--- where it went on, neither stopped it
-both_false : (a b : Bool) → (a || b) ≡ false → (a ≡ false) × (b ≡ false)
-both_false true b e = absurd (let never : true ≡ false = e in cc)
-both_false false b e = (refl, e)
-
 pub returns-clause-step : goal.returns-clause-step
 returns-clause-step g c =
     let e = c.self.inside.engine in
     let goes = sym c.is_stopped.ensures ∙ c.if-is_stopped.false in
-    let running : c.self.inside.stopped ≡ false = ap (λ (r : Replica g.row.D.Denot). r.stopped) c.self.view_is ∙ (both_false c.args.self.now.stopped (is_some c.args.self.now.engine.halted) goes).0 in
+    let running : c.self.inside.stopped ≡ false = ap (λ (r : Replica g.row.D.Denot). r.stopped) c.self.view_is ∙ (or_both c.args.self.now.stopped (is_some c.args.self.now.engine.halted) goes).0 in
     let params = ap (λ (x : Engine g.row.D.Denot). x.checkpoint.base.params) c.read.ensures.rest in
     let block = ap (λ (x : Engine g.row.D.Denot). x.block) c.read.ensures.rest in
     let step = read_step g.D.Disk c.nodes_stay_nodes.ensures c.judging_goes_on.ensures c.parts_step_as_the_whole.ensures (old g c) (new g c) (row c.read.result) params refl refl refl running c.args.key c.args.s block
