@@ -2,17 +2,17 @@
 
 # The program's crates, floor by floor from the lowest (crates.txt has all crates): each stands behind those that it stands on.
 # values
-CRATES := rep_types rep_streams rep_forms rep_cert rep_record rep_backlog rep_saved rep_layout rep_versions rep_pages rep_transfer
+CRATES := rep_types rep_streams rep_forms rep_cert rep_record rep_lines rep_requests rep_backlog rep_saved rep_layout rep_versions rep_pages rep_transfer
 # disk
 CRATES += rep_disk rep_cells rep_pool rep_log
 # base
 CRATES += rep_steps rep_image rep_checkpoint
 # node
-CRATES += rep_engine rep_recover rep_replica rep_catchup rep_sum
+CRATES += rep_engine rep_recover rep_replica rep_follow rep_catchup rep_sum
 # threads
 CRATES += rep_ordered rep_snap rep_stations rep_node
 # program
-CRATES += rep_script rep_serve rep_reasons rep_damage rep_command rep_files replicad
+CRATES += rep_script rep_service rep_serve rep_reasons rep_damage rep_command rep_files replicad
 PROGRAM := crates/replicad/out/replicad
 # What `make bench` needs beside these: what times the certifier against the plain node, and what times versions and pages of rows,
 # readers against a lock, and readers beside a node that serves.
@@ -68,6 +68,7 @@ SECONDS ?= 60
 soak: toolchain
 	@scripts/build $(CRATES)
 	@scripts/soak --seconds $(SECONDS) $(if $(SEED),--seed $(SEED))
+	@scripts/soak --followed
 
 toolchain:
 	@command -v rt >/dev/null || { echo "The Rattle toolchain is missing: no command 'rt' on the path." >&2; exit 1; }

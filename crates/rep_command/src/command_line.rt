@@ -1,6 +1,7 @@
 //! The command line.
 
 use crate::format_options::{FormatOptions, options_of};
+use crate::help;
 use crate::serve_options::Workers;
 use clap::error::ErrorKind;
 use clap::{Arg, ArgAction, ArgMatches, Command, Error};
@@ -47,10 +48,11 @@ fn option<'a>(alloc: Global, name: &'a str, value: &'a str, help: &'a str) -> Ar
         .help(help)
 }
 
-/// A subcommand: its name, what it does, and its arguments.
+/// A subcommand: its name, what it does, what its help says behind its options, and its arguments.
 struct Subcommand {
     name: &'static str,
     about: &'static str,
+    more: &'static str,
     arguments: &'static [Argument],
 }
 
@@ -58,6 +60,7 @@ struct Subcommand {
 const JUDGE: &Subcommand = &Subcommand {
     name: "judge",
     about: "Judge an order text from standard input: one verdict line for each item",
+    more: help::JUDGE,
     arguments: &[],
 };
 
@@ -65,6 +68,7 @@ const JUDGE: &Subcommand = &Subcommand {
 const FORMAT: &Subcommand = &Subcommand {
     name: "format",
     about: "Make a file and format it as the disk of a new node",
+    more: help::FORMAT,
     arguments: &[
         Argument::Disk("The file to make; nothing may be there yet"),
         Argument::Needed("window", "W", "Seqnos of the window, 1 to 256"),
@@ -78,10 +82,19 @@ const FORMAT: &Subcommand = &Subcommand {
     ],
 };
 
+/// Follows an order.
+const FOLLOW: &Subcommand = &Subcommand {
+    name: "follow",
+    about: "Follow an order from standard input: its items are taken, made durable and answered, for as long as it goes on",
+    more: help::FOLLOW,
+    arguments: &[Argument::Disk("The disk of the node")],
+};
+
 /// Runs a script.
 const RUN: &Subcommand = &Subcommand {
     name: "run",
     about: "Run a script from standard input on a replica on a new disk in memory, or on a file",
+    more: help::RUN,
     arguments: &[Argument::Free("disk", "FILE", "The disk to run on")],
 };
 
@@ -89,6 +102,7 @@ const RUN: &Subcommand = &Subcommand {
 const STATE: &Subcommand = &Subcommand {
     name: "state",
     about: "Print the saved state of a disk: its cluster and its position",
+    more: help::STATE,
     arguments: &[
         Argument::Disk("The disk of the node"),
         Argument::Free("saved", "FILE", "A saved state of the same cluster"),
@@ -100,6 +114,7 @@ const STATE: &Subcommand = &Subcommand {
 const SUM: &Subcommand = &Subcommand {
     name: "sum",
     about: "Print the sum of a disk's rows, by which nodes are compared",
+    more: help::SUM,
     arguments: &[
         Argument::Disk("The disk of the node"),
         Argument::Free(
@@ -114,6 +129,7 @@ const SUM: &Subcommand = &Subcommand {
 const DONATE: &Subcommand = &Subcommand {
     name: "donate",
     about: "Write for a node that joins what it lacks",
+    more: help::DONATE,
     arguments: &[
         Argument::Disk("The disk of the donor"),
         Argument::Needed("have", "FILE", "What the joiner has"),
@@ -125,6 +141,7 @@ const DONATE: &Subcommand = &Subcommand {
 const JOIN: &Subcommand = &Subcommand {
     name: "join",
     about: "Bring a node up to date by a transfer of another one",
+    more: help::JOIN,
     arguments: &[
         Argument::Disk("The disk of the joiner"),
         Argument::Needed("from", "FILE", "The transfer"),
@@ -135,6 +152,7 @@ const JOIN: &Subcommand = &Subcommand {
 const SERVE: &Subcommand = &Subcommand {
     name: "serve",
     about: "Hand in the items of a text from standard input, together, to a node of several threads",
+    more: help::SERVE,
     arguments: &[
         Argument::Disk("The disk of the node"),
         Argument::Free(
@@ -146,11 +164,13 @@ const SERVE: &Subcommand = &Subcommand {
 };
 
 /// The subcommands, in the order in which the help names them.
-const SUBCOMMANDS: &[&Subcommand] = &[JUDGE, FORMAT, RUN, STATE, SUM, DONATE, JOIN, SERVE];
+const SUBCOMMANDS: &[&Subcommand] = &[JUDGE, FORMAT, FOLLOW, RUN, STATE, SUM, DONATE, JOIN, SERVE];
 
 /// The subcommand for the parser.
 fn parsed<'a>(alloc: Global, subcommand: &Subcommand) -> Result<Command<'a>, AllocError> {
-    let mut command = Command::new(alloc, subcommand.name).about(subcommand.about);
+    let mut command = Command::new(alloc, subcommand.name)
+        .about(subcommand.about)
+        .after_long_help(subcommand.more);
     for argument in subcommand.arguments {
         command = command.arg(argument.parsed(alloc))?;
     }
@@ -160,8 +180,9 @@ fn parsed<'a>(alloc: Global, subcommand: &Subcommand) -> Result<Command<'a>, All
 /// The program without its subcommands.
 fn program<'a>(alloc: Global) -> Command<'a> {
     Command::new(alloc, "replicad")
-        .version("0.1.0")
+        .version("0.1.0, of the disk formats 1 and 2")
         .about("One node of a multi-master database")
+        .after_long_help(help::PROGRAM)
         .subcommand_required(true)
 }
 
@@ -202,6 +223,8 @@ impl Task<'_> {
 pub enum FileTask<'a> {
     /// Make the file at this path a disk with these parameters and this state UUID.
     Format(&'a str, Params, Option<Uuid>),
+    /// Follow an order on the disk at this path.
+    Follow(&'a str),
     /// Run a script on the disk at this path.
     Run(&'a str),
     /// Print the state of the disk at this path, beside the saved state in a file where there is one, and write what the node
@@ -278,6 +301,11 @@ fn format_task<'a, R: Print + Eprint>(
     }
 }
 
+/// The task of `follow` with these words behind it.
+fn follow_task<'a>(matches: &ArgMatches<'a>) -> FileTask<'a> {
+    FileTask::Follow(value_of(matches, "disk"))
+}
+
 /// The task of `run` with these words behind it.
 fn run_task<'a>(matches: &ArgMatches<'a>) -> Task<'a> {
     match matches.get_str("disk") {
@@ -349,6 +377,7 @@ fn named_task<'a, R: Print + Eprint>(
 ) -> Result<Task<'a>, Fault<'a>> {
     match matches.subcommand() {
         Some(("format", matches)) => format_task(rt, alloc, matches),
+        Some(("follow", matches)) => Ok(Task::OnFiles(follow_task(matches))),
         Some(("run", matches)) => Ok(run_task(matches)),
         Some(("state", matches)) => Ok(Task::OnFiles(state_task(matches))),
         Some(("sum", matches)) => sum_task(rt, alloc, matches),

@@ -3,6 +3,7 @@
 
 mod command_line;
 mod format_options;
+mod help;
 mod serve_options;
 
 pub use command_line::{FileTask, Task, USAGE, task_of};

@@ -2,6 +2,7 @@
 #![tactic(auto)]
 
 mod disk_file;
+mod follow;
 mod name;
 mod new_file;
 mod sum;
@@ -12,6 +13,7 @@ use crate::name::{Unnamed, named};
 use crate::waiting::Use;
 pub use disk_file::{DiskOnFile, OnFile, disk_fault, format_file, opened_file};
 use disk_file::{disk_at, opened_to_read};
+pub use follow::follow_file;
 use rep_catchup::{donate, donation_refusal};
 use rep_reasons::{Cause, Fault, Form, Noted, OUTPUT, Text};
 use rep_saved::SavedState;

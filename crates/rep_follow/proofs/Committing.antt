@@ -1,31 +1,40 @@
 -- Commits of blocks one after another.
-use Rattle.std.proofs.Common.{◌≡◌, ℕ, ◌-◌, ◌<◌, ◌≤◌, Bool, false, List, [], ◌∷◌, ◌++◌, length, take, drop, map, Option, Result, Ok, Err, refl, sym, ap, ◌∙◌, arith, subst, append_assoc, append-nil, length-append, length-drop}
+use Rattle.std.proofs.Common.{◌≡◌, ℕ, ◌-◌, ◌<◌, ◌≤◌, Bool, true, false, List, [], ◌∷◌, ◌++◌, length, take, drop, map, Option, Result, Ok, Err, refl, sym, ap, ◌∙◌, ◌⊎◌, inl, inr, arith, subst, append_assoc, append-nil, length-append, length-drop}
 use Rattle.std.proofs.lemmas.List.{map-append, drop-drop, drop-append-le, take-append-le, length-map, length-take-le}
 use Rattle.std.proofs.Math.Seq.{take-add}
-use Rattle.std.specs.Prelude.{◌||◌, is_some, OnOk, OnErr, IfErr}
+use Rattle.std.specs.Prelude.{◌||◌, is_some, nat_lt, OnOk, OnErr, IfErr}
 use Rattle.std.specs.Io.KnownBytes.{Appends}
 use Rattle.std.proofs.KnownBytes.{Appends-nil, Appends-trans}
 use Rattle.std.proofs.lemmas.List.Concat.{flat_map-append}
-use Rattle.rep_types.specs.declared.refusal.Refusal.TheVariants.{Stopped, StreamFault}
+use Rattle.rep_types.specs.declared.refusal.Refusal.TheVariants.{StreamFault, Exhausted, Stopped, OutOfMemory, DiskFault, Corrupt}
+use Rattle.rep_types.specs.declared.refusal.Part.TheVariants.{Pages}
 use Rattle.rep_types.specs.declared.item.Item.{Item}
 use Rattle.rep_types.specs.declared.judged.Judged.{Judged}
 use Rattle.rep_types.specs.declared.reply.Reply.{Reply}
 use Rattle.rep_types.specs.declared.refusal.Refusal.{Refusal}
 use Rattle.rep_types.specs.Replies.{reply_of}
 use Rattle.rep_disk.specs.declared.disk.Disk.{Ghosts}
+use Rattle.rep_log.specs.declared.phase.Phase.TheVariants.{Resting}
 use Rattle.rep_steps.specs.declared.event.Event.{Event}
 use Rattle.rep_steps.specs.declared.answer.Answer.{Answer}
-use Rattle.rep_steps.specs.Standings.{Standing}
-use Rattle.rep_steps.specs.Runs.{Runs, accepted_by, acknowledged, replies_in}
+use Rattle.rep_steps.specs.declared.answer.Answer.TheVariants.{Refused}
+use Rattle.rep_steps.specs.Standings.{Standing, delivered as delivered_of}
+use Rattle.rep_steps.specs.Runs.{Runs as RunsBy, accepted_by, acknowledged}
 use Rattle.rep_steps.specs.Orders.{accepted}
 use Rattle.rep_steps.specs.declared.event.Event.TheVariants.{Deliver, SetWindow, Log, Sync, Check, Flush, Read}
 use Rattle.rep_replica.specs.Replicas.{Replica, facts_of}
-use Rattle.rep_replica.specs.Settling.{IsOwn, AreOwn}
+use Rattle.rep_replica.specs.Settling.{IsOwn, AreOwn, EndsEarly}
 use Rattle.rep_replica.specs.Holding.{IsStep}
-use Rattle.rep_replica.specs.Running.{RunsAreJoined}
+use Rattle.rep_replica.specs.Running.{Ran}
+use Rattle.rep_replica.specs.Episodes.{Episode, Runs, GivesUp, Brings, Breaks, AreEpisodes, replies_of}
+use Rattle.rep_replica.specs.Asking.{IsAsked, AsksAreGivenUp}
 use Rattle.rep_replica.specs.Committing.{Commits as CommitsBlock, HasBlock, coming}
 use Rattle.rep_follow.specs.Receipts.{receipt_line, receipt_lines}
-use Rattle.rep_follow.specs.Committing.{IsDurableBy, item_of, Follows, Goes, Written, WrittenNext, TellsNext, TellsAll}
+use Rattle.rep_follow.specs.declared.counts.Counts.{Counts}
+use Rattle.rep_follow.specs.Counting.{one_where, tally, risen_by, HasCounters, AreCounted, HasSettled}
+use Rattle.rep_follow.specs.Committing.{IsDurableBy, item_of, BringNothing, accepted_in, Follows, IsLastAnswer, EndsAsAnswered, Goes, Written, WrittenNext, TellsNext, TellsAll}
+use Rattle.rep_follow.proofs.Counting.{risen_not, counted_both, counted_block, counted_run, counted_items, counted_none}
+use Rattle.rep_follow.specs.Taking.{Delivers}
 
 -- ---- the receipts
 
@@ -80,37 +89,56 @@ accepted_none Check a own = refl
 accepted_none (Flush page) a own = refl
 accepted_none (Read key at) a own = absurd own
 
-own_none : (events : List Event) (answers : List Answer) → AreOwn events → accepted_by events answers ≡ []
+pub own_none : (events : List Event) (answers : List Answer) → AreOwn events → accepted_by events answers ≡ []
 own_none [] answers own = refl
 own_none (e ∷ events) [] own = refl
 own_none (e ∷ events) (a ∷ answers) own = ap (λ l. l ++ accepted_by events answers) (accepted_none e a own.0) ∙ own_none events answers own.1
 
 -- each event has its answer
-runs_paired : {S : Type 0} (one : S → Event → Answer → S → Type 0) (s t : S) (events : List Event) (answers : List Answer) → Runs one s events answers t → length events ≡ length answers
+pub runs_paired : {S : Type 0} (one : S → Event → Answer → S → Type 0) (s t : S) (events : List Event) (answers : List Answer) → RunsBy one s events answers t → length events ≡ length answers
 runs_paired one s t [] [] runs = refl
 runs_paired one s t [] (a ∷ answers) runs = absurd runs
 runs_paired one s t (e ∷ events) [] runs = absurd runs
 runs_paired one s t (e ∷ events) (a ∷ answers) runs = let later = runs_paired one runs.0 t events answers runs.2 in omega (arith, later)
 
-accepted_both : (events more : List Event) (answers then : List Answer) → length events ≡ length answers → accepted_by (events ++ more) (answers ++ then) ≡ accepted_by events answers ++ accepted_by more then
-accepted_both [] more [] then paired = refl
-accepted_both [] more (a ∷ answers) then paired = absurd (omega (arith, paired))
-accepted_both (e ∷ events) more [] then paired = absurd (omega (arith, paired))
-accepted_both (e ∷ events) more (a ∷ answers) then paired =
-    ap (λ l. accepted e a ++ l) (accepted_both events more answers then (omega (arith, paired))) ∙ sym (append_assoc (accepted e a) (accepted_by events answers) (accepted_by more then))
+-- ---- episodes
 
-given_both : (first then : List Answer) → acknowledged (first ++ then) ≡ acknowledged first ++ acknowledged then
-given_both [] then = refl
-given_both (a ∷ first) then = ap (λ l. replies_in a ++ l) (given_both first then) ∙ sym (append_assoc (replies_in a) (acknowledged first) (acknowledged then))
+-- parts of a life behind parts of it
+pub episodes_both : {D : Type 0} (g : Ghosts D) (from mid last : Replica D) (es fs : List (Episode D)) → BringNothing es → AreEpisodes g from es mid → AreEpisodes g mid fs last → AreEpisodes g from (es ++ fs) last
+episodes_both g from mid last [] fs own one two = subst (λ r. AreEpisodes g r fs last) (sym one) two
+episodes_both g from mid last (Runs events answers to ∷ es) fs own one two = (one.0, episodes_both g to mid last es fs own.1 one.1 two)
+episodes_both g from mid last (GivesUp to ∷ es) fs own one two = (one.0, episodes_both g to mid last es fs own one.1 two)
+episodes_both g from mid last (Brings uuid y to ∷ es) fs own one two = absurd own
+episodes_both g from mid last (Breaks uuid y to ∷ es) fs own one two = absurd own
 
-module _ {D : Type 0} (g : Ghosts D) (joined : RunsAreJoined g) where
+pub nothing_both : {D : Type 0} (es fs : List (Episode D)) → BringNothing es → BringNothing fs → BringNothing (es ++ fs)
+nothing_both [] fs one two = two
+nothing_both (Runs events answers to ∷ es) fs one two = (one.0, nothing_both es fs one.1 two)
+nothing_both (GivesUp to ∷ es) fs one two = nothing_both es fs one two
+nothing_both (Brings uuid y to ∷ es) fs one two = absurd one
+nothing_both (Breaks uuid y to ∷ es) fs one two = absurd one
+
+pub accepted_both : {D : Type 0} (es fs : List (Episode D)) → accepted_in (es ++ fs) ≡ accepted_in es ++ accepted_in fs
+accepted_both [] fs = refl
+accepted_both (Runs events answers to ∷ es) fs = ap (λ l. accepted_by events answers ++ l) (accepted_both es fs) ∙ sym (append_assoc (accepted_by events answers) (accepted_in es) (accepted_in fs))
+accepted_both (GivesUp to ∷ es) fs = accepted_both es fs
+accepted_both (Brings uuid y to ∷ es) fs = accepted_both es fs
+accepted_both (Breaks uuid y to ∷ es) fs = accepted_both es fs
+
+pub given_both : {D : Type 0} (es fs : List (Episode D)) → replies_of (es ++ fs) ≡ replies_of es ++ replies_of fs
+given_both [] fs = refl
+given_both (Runs events answers to ∷ es) fs = ap (λ l. acknowledged answers ++ l) (given_both es fs) ∙ sym (append_assoc (acknowledged answers) (replies_of es) (replies_of fs))
+given_both (GivesUp to ∷ es) fs = given_both es fs
+given_both (Brings uuid y to ∷ es) fs = given_both es fs
+given_both (Breaks uuid y to ∷ es) fs = given_both es fs
+
+module _ {D : Type 0} (g : Ghosts D) where
   -- nothing was done yet
-  pub follows_none : (r : Replica D) → Follows g r r [] []
+  abbrev pub follows_none : (r : Replica D) → Follows g r r [] []
   follows_none r = record {
-    events = [];
-    answers = [];
-    paired = refl;
-    ran = joined.no_run r;
+    episodes = [];
+    are = refl;
+    own = tt;
     accepted = refl;
     given = refl;
     judged = [];
@@ -119,101 +147,204 @@ module _ {D : Type 0} (g : Ghosts D) (joined : RunsAreJoined g) where
   }
 
   -- some more
-  pub follows_both : (old mid new : Replica D) (items more : List Item) (first then : List Reply) → Follows g old mid items first → Follows g mid new more then → Follows g old new (items ++ more) (first ++ then)
+  abbrev pub follows_both : (old mid new : Replica D) (items more : List Item) (first then : List Reply) → Follows g old mid items first → Follows g mid new more then → Follows g old new (items ++ more) (first ++ then)
   follows_both old mid new items more first then one two = record {
-    events = one.events ++ two.events;
-    answers = one.answers ++ two.answers;
-    paired = omega (arith, length-append one.events two.events, length-append one.answers two.answers, one.paired, two.paired);
-    ran = joined.both_runs old mid new one.events one.answers two.events two.answers one.ran two.ran;
-    accepted = accepted_both one.events two.events one.answers two.answers one.paired ∙ ap (λ l. l ++ accepted_by two.events two.answers) one.accepted ∙ ap (λ l. items ++ l) two.accepted;
-    given = given_both one.answers two.answers ∙ ap (λ l. l ++ acknowledged two.answers) one.given ∙ ap (λ l. first ++ l) two.given;
+    episodes = one.episodes ++ two.episodes;
+    are = episodes_both g old mid new one.episodes two.episodes one.own one.are two.are;
+    own = nothing_both one.episodes two.episodes one.own two.own;
+    accepted = accepted_both one.episodes two.episodes ∙ ap (λ l. l ++ accepted_in two.episodes) one.accepted ∙ ap (λ l. items ++ l) two.accepted;
+    given = given_both one.episodes two.episodes ∙ ap (λ l. l ++ replies_of two.episodes) one.given ∙ ap (λ l. first ++ l) two.given;
     judged = one.judged ++ two.judged;
     are_items = map-append item_of one.judged two.judged ∙ ap (λ l. l ++ map item_of two.judged) one.are_items ∙ ap (λ l. items ++ l) two.are_items;
     durable = both_durable (facts_of g old) (facts_of g mid) (facts_of g new) one.judged two.judged first then one.durable two.durable;
   }
 
-module _ {D : Type 0} (g : Ghosts D) (pages : ℕ) (old new : Replica D) where
-  -- a block
-  pub follows_block : (replies : List Reply) → CommitsBlock g pages old new (Ok replies) → Follows g old new [] replies
-  follows_block replies c = record {
-    events = c.works.events;
-    answers = c.works.answers;
-    paired = runs_paired (IsStep g) old new c.works.events c.works.answers c.works.steps;
-    ran = c.works.ran;
-    accepted = own_none c.works.events c.works.answers c.works.own;
-    given = c.told;
-    judged = [];
-    are_items = refl;
-    durable = block_durable (facts_of g old) (facts_of g new) replies c.block;
+  -- one run
+  abbrev pub follows_run : (old new : Replica D) (events : List Event) (answers : List Answer) (judged : List Judged) (items : List Item) (receipts : List Reply) → length events ≡ length answers → Ran g old new events answers
+      → accepted_by events answers ≡ items → acknowledged answers ≡ receipts → map item_of judged ≡ items → IsDurableBy (facts_of g old) judged receipts (facts_of g new) → Follows g old new items receipts
+  follows_run old new events answers judged items receipts paired ran accepted given are durable = record {
+    episodes = Runs events answers new ∷ [];
+    are = (ran, refl);
+    own = (paired, tt);
+    accepted = append-nil (accepted_by events answers) ∙ accepted;
+    given = append-nil (acknowledged answers) ∙ given;
+    judged = judged;
+    are_items = are;
+    durable = durable;
   }
 
-  -- none
-  pub follows_no_block : (e : Refusal) → CommitsBlock g pages old new (Err e) → Follows g old new [] []
-  follows_no_block e c = record {
-    events = c.works.events;
-    answers = c.works.answers;
-    paired = runs_paired (IsStep g) old new c.works.events c.works.answers c.works.steps;
-    ran = c.works.ran;
-    accepted = own_none c.works.events c.works.answers c.works.own;
-    given = c.told;
+  -- the device was asked, and nothing else was done
+  abbrev pub follows_ask : AsksAreGivenUp g → (old new : Replica D) → IsAsked g old new → Follows g old new [] []
+  follows_ask given_up old new asked = record {
+    episodes = GivesUp new ∷ [];
+    are = (given_up old new asked, refl);
+    own = tt;
+    accepted = refl;
+    given = refl;
     judged = [];
     are_items = refl;
-    durable = none_durable (facts_of g old) (facts_of g new) c.block.durable c.block.ahead;
+    durable = none_durable (facts_of g old) (facts_of g new) (ap (λ r. (facts_of g r).durable) asked.rest) (ap (λ r. (facts_of g r).ahead) asked.rest);
   }
+
+module _ {D : Type 0} (g : Ghosts D) (pages : ℕ) (old new : Replica D) where
+  -- a block
+  abbrev pub follows_block : (replies : List Reply) → CommitsBlock g pages old new (Ok replies) → Follows g old new [] replies
+  follows_block replies c = follows_run g old new c.works.events c.works.answers [] [] replies (runs_paired (IsStep g) old new c.works.events c.works.answers c.works.steps) c.works.ran
+      (own_none c.works.events c.works.answers c.works.own) c.told refl (block_durable (facts_of g old) (facts_of g new) replies c.block)
+
+  -- none
+  abbrev pub follows_no_block : (e : Refusal) → CommitsBlock g pages old new (Err e) → Follows g old new [] []
+  follows_no_block e c = follows_run g old new c.works.events c.works.answers [] [] [] (runs_paired (IsStep g) old new c.works.events c.works.answers c.works.steps) c.works.ran
+      (own_none c.works.events c.works.answers c.works.own) c.told refl (none_durable (facts_of g old) (facts_of g new) c.block.durable c.block.ahead)
+
+-- ---- causes
+
+-- what holds in any case
+pub on_ok : {X : Type 0} (r : Result (Unit {0}) Refusal) → X → OnOk r X
+on_ok (Ok x) holds = holds
+on_ok (Err e) holds = tt
+
+-- what was answered last behind other parts of a life
+last_behind : {D : Type 0} (es fs : List (Episode D)) (e : Refusal) → IsLastAnswer fs e → IsLastAnswer (es ++ fs) e
+last_behind es fs e last = (es ++ last.0, last.1, last.2, last.3, ap (λ l. es ++ l) last.4 ∙ sym (append_assoc es last.0 (Runs last.1 (last.2 ++ Refused e ∷ []) last.3 ∷ [])))
+
+pub early_behind : {D T : Type 0} (es fs : List (Episode D)) (r : Result T Refusal) → EndsAsAnswered fs r → EndsAsAnswered (es ++ fs) r
+early_behind es fs (Ok x) early = tt
+early_behind es fs (Err e) early = λ is. last_behind es fs e (early is)
+
+never_early : (e : Refusal) → (e ≡ StreamFault) ⊎ ((e ≡ Exhausted) ⊎ (e ≡ Stopped)) → EndsEarly e → ⊥
+never_early e (inr (inr is)) (inl other) = let never : Stopped ≡ OutOfMemory = sym is ∙ other in absurd cc
+never_early e (inr (inr is)) (inr (inl other)) = let never : Stopped ≡ DiskFault = sym is ∙ other in absurd cc
+never_early e (inr (inr is)) (inr (inr other)) = let never : Stopped ≡ Corrupt Pages = sym is ∙ other in absurd cc
+never_early e (inl is) (inl other) = let never : StreamFault ≡ OutOfMemory = sym is ∙ other in absurd cc
+never_early e (inl is) (inr (inl other)) = let never : StreamFault ≡ DiskFault = sym is ∙ other in absurd cc
+never_early e (inl is) (inr (inr other)) = let never : StreamFault ≡ Corrupt Pages = sym is ∙ other in absurd cc
+never_early e (inr (inl is)) (inl other) = let never : Exhausted ≡ OutOfMemory = sym is ∙ other in absurd cc
+never_early e (inr (inl is)) (inr (inl other)) = let never : Exhausted ≡ DiskFault = sym is ∙ other in absurd cc
+never_early e (inr (inl is)) (inr (inr other)) = let never : Exhausted ≡ Corrupt Pages = sym is ∙ other in absurd cc
+
+pub not_early : {D : Type 0} (e : Refusal) → (e ≡ StreamFault) ⊎ ((e ≡ Exhausted) ⊎ (e ≡ Stopped)) → (es : List (Episode D)) → EndsAsAnswered {T = Unit {0}} es (Err e)
+not_early e is es = λ early. absurd (never_early e is early)
+
+-- a stream's fault is no step's
+pub early_stream : {D T : Type 0} (es : List (Episode D)) (r : Result T Refusal) → IfErr r (λ e. e ≡ StreamFault) → EndsAsAnswered es r
+early_stream es (Ok x) is = tt
+early_stream es (Err e) is = λ early. absurd (never_early e (inl is) early)
+
+-- the steps of a block that ended early
+early_block : {D : Type 0} (g : Ghosts D) (pages : ℕ) (old new : Replica D) (e : Refusal) (c : CommitsBlock g pages old new (Err e)) → IsLastAnswer (Runs c.works.events c.works.answers new ∷ []) e
+early_block g pages old new e c = ([], c.works.events, c.works.ends.0, new, ap (λ (answers : List Answer). Runs c.works.events answers new ∷ []) c.works.ends.2)
 
 -- ---- what is told
 
--- All that became durable is told, no stream has failed since, and the replica runs.
-pub record Told {D : Type 0} (g : Ghosts D) (old new : Replica D) (before after : Option (List ℕ)) (was is : Bool) : Type 0 where
+-- All that became durable is told and counted, no stream has failed since, and the replica runs.
+pub record Told {D : Type 0} (g : Ghosts D) (old new : Replica D) (was now : Counts) (before after : Option (List ℕ)) (failed failing : Bool) : Type 0 where
   pub receipts : List Reply
   pub follows : Follows g old new [] receipts
   pub written : Appends before after (receipt_lines receipts)
+  pub counted : AreCounted g old follows.episodes [] receipts was now
+  pub rests : (facts_of g old).phase ≡ Resting → (facts_of g new).phase ≡ Resting
+  pub block : (new ≡ old) ⊎ ((facts_of g new).phase ≡ Resting)
   pub running : (new.stopped || is_some new.engine.halted) ≡ false
-  pub failed : is ≡ was
+  pub fine : failing ≡ failed
 
 pub lines_both : (first then : List Reply) → receipt_lines (first ++ then) ≡ receipt_lines first ++ receipt_lines then
 lines_both first then = flat_map-append receipt_line first then
 
-module _ {D : Type 0} (g : Ghosts D) (joined : RunsAreJoined g) where
-  pub told_none : (r : Replica D) (text : Option (List ℕ)) (was : Bool) → (r.stopped || is_some r.engine.halted) ≡ false → Told g r r text text was was
-  told_none r text was running = record { receipts = []; follows = follows_none g joined r; written = Appends-nil text; running = running; failed = refl }
+module _ {D : Type 0} (g : Ghosts D) where
+  pub told_none : (r : Replica D) (was : Counts) (text : Option (List ℕ)) (failed : Bool) → HasCounters was → (r.stopped || is_some r.engine.halted) ≡ false → Told g r r was was text text failed failed
+  told_none r was text failed has running = record { receipts = []; follows = follows_none g r; written = Appends-nil text; counted = counted_none g r was has; rests = λ rests. rests; block = inl refl; running = running; fine = refl }
 
-  module _ (old mid new : Replica D) (before between after : Option (List ℕ)) (was is then : Bool) (told : Told g old mid before between was is) where
+  module _ (old mid new : Replica D) (was between now : Counts) (before written after : Option (List ℕ)) (failed failing then : Bool) (told : Told g old mid was between before written failed failing) where
     -- one more block
-    pub told_more : (x : Unit {0}) → TellsNext g mid new between after (Ok x) → (new.stopped || is_some new.engine.halted) ≡ false → then ≡ is → Told g old new before after was then
-    told_more x next running failed = record {
+    pub told_more : (x : Unit {0}) → TellsNext g mid new between now written after (Ok x) → (new.stopped || is_some new.engine.halted) ≡ false → then ≡ failing → Told g old new was now before after failed then
+    told_more x next running fine = record {
       receipts = told.receipts ++ next.receipts;
-      follows = follows_both g joined old mid new [] [] told.receipts next.receipts told.follows next.follows;
-      written = subst (Appends before after) (sym (lines_both told.receipts next.receipts)) (Appends-trans before between after (receipt_lines told.receipts) (receipt_lines next.receipts) told.written next.written.1);
+      follows = follows_both g old mid new [] [] told.receipts next.receipts told.follows next.follows;
+      written = subst (Appends before after) (sym (lines_both told.receipts next.receipts)) (Appends-trans before written after (receipt_lines told.receipts) (receipt_lines next.receipts) told.written next.written.1);
+      counted = counted_both g old mid told.follows.episodes next.follows.episodes [] [] told.receipts next.receipts was between now told.follows.own told.follows.are told.counted next.counted;
+      rests = λ rests. next.rests;
+      block = inr next.rests;
       running = running;
-      failed = failed ∙ told.failed;
+      fine = fine ∙ told.fine;
     }
 
     -- the next block failed
-    told_err : (e : Refusal) (next : TellsNext g mid new between after (Err e)) → WrittenNext next.receipts between after (Err e) → Written (told.receipts ++ next.receipts) before after (Err e)
+    told_err : (e : Refusal) (next : TellsNext g mid new between now written after (Err e)) → WrittenNext next.receipts written after (Err e) → Written (told.receipts ++ next.receipts) before after (Err e)
     told_err StreamFault next w =
-        (told.receipts, next.receipts, w.0, refl, next.few, Appends-trans before between after (receipt_lines told.receipts) (take w.0 (receipt_lines next.receipts)) told.written w.1)
+        (told.receipts, next.receipts, w.0, refl, next.few, Appends-trans before written after (receipt_lines told.receipts) (take w.0 (receipt_lines next.receipts)) told.written w.1)
     told_err e next w =
         let same : receipt_lines (told.receipts ++ next.receipts) ≡ receipt_lines told.receipts ++ [] = lines_both told.receipts next.receipts ∙ ap (λ rs. receipt_lines told.receipts ++ receipt_lines rs) w.0 in
-        subst (Appends before after) (sym same) (Appends-trans before between after (receipt_lines told.receipts) [] told.written w.1)
+        subst (Appends before after) (sym same) (Appends-trans before written after (receipt_lines told.receipts) [] told.written w.1)
 
-    pub told_ended : (e : Refusal) → TellsNext g mid new between after (Err e) → TellsAll g old new before after (Err e)
+    pub told_ended : (e : Refusal) → TellsNext g mid new between now written after (Err e) → TellsAll g old new was now before after (Err e)
     told_ended e next = record {
       goes = record {
         receipts = told.receipts ++ next.receipts;
-        follows = follows_both g joined old mid new [] [] told.receipts next.receipts told.follows next.follows;
+        follows = follows_both g old mid new [] [] told.receipts next.receipts told.follows next.follows;
         written = told_err e next next.written;
+        counted = counted_both g old mid told.follows.episodes next.follows.episodes [] [] told.receipts next.receipts was between now told.follows.own told.follows.are told.counted next.counted;
+        rests = λ rests. tt;
+        early = early_behind {T = Unit {0}} told.follows.episodes next.follows.episodes (Err e) next.early;
       };
       all = tt;
+      rests = λ some. tt;
     }
 
+  by_block_none : (old new : Replica D) → new ≡ old → (facts_of g new).ahead ≡ [] → 0 < length (facts_of g old).ahead → ⊥
+  by_block_none old new same none some = let left = ap length (ap (λ r. (facts_of g r).ahead) (sym same) ∙ none) in omega (arith, left, some)
+
+  by_block : {old new : Replica D} → (new ≡ old) ⊎ ((facts_of g new).phase ≡ Resting) → (facts_of g new).ahead ≡ [] → 0 < length (facts_of g old).ahead → (facts_of g new).phase ≡ Resting
+  by_block {old} {new} (inl same) none some = absurd (by_block_none old new same none some)
+  by_block (inr rests) none some = rests
+
   -- nothing waits
-  pub told_all : (old new : Replica D) (before after : Option (List ℕ)) (was is : Bool) (x : Unit {0}) → Told g old new before after was is → (facts_of g new).ahead ≡ [] → TellsAll g old new before after (Ok x)
-  told_all old new before after was is x told none = record { goes = record { receipts = told.receipts; follows = told.follows; written = told.written }; all = none }
+  pub told_all : (old new : Replica D) (was now : Counts) (before after : Option (List ℕ)) (failed failing : Bool) (x : Unit {0}) → Told g old new was now before after failed failing → (facts_of g new).ahead ≡ [] → TellsAll g old new was now before after (Ok x)
+  told_all old new was now before after failed failing x told none = record {
+    goes = record { receipts = told.receipts; follows = told.follows; written = told.written; counted = told.counted; rests = told.rests; early = tt };
+    all = none;
+    rests = λ some. by_block told.block none some;
+  }
 
   -- a stopped replica did nothing
-  pub told_stopped : (r : Replica D) (text : Option (List ℕ)) → TellsAll g r r text text (Err Stopped)
-  told_stopped r text = record { goes = record { receipts = []; follows = follows_none g joined r; written = Appends-nil text }; all = tt }
+  pub told_stopped : (r : Replica D) (was : Counts) (text : Option (List ℕ)) → HasCounters was → TellsAll g r r was was text text (Err Stopped)
+  told_stopped r was text has = record {
+    goes = record { receipts = []; follows = follows_none g r; written = Appends-nil text; counted = counted_none g r was has; rests = λ rests. tt; early = not_early Stopped (inr (inr refl)) [] };
+    all = tt;
+    rests = λ some. tt;
+  }
+
+  -- and one for which nothing waits
+  pub told_idle : (r : Replica D) (was : Counts) (text : Option (List ℕ)) → HasCounters was → (facts_of g r).ahead ≡ [] → TellsAll g r r was was text text (Ok tt)
+  told_idle r was text has none = record {
+    goes = record { receipts = []; follows = follows_none g r; written = Appends-nil text; counted = counted_none g r was has; rests = λ rests. rests; early = tt };
+    all = none;
+    rests = λ some. absurd (by_block_none r r refl none some);
+  }
+
+  none_long : (judged : List Judged) → length judged ≤ 0 → judged ≡ []
+  none_long [] few = refl
+  none_long (j ∷ judged) few = absurd (omega (arith, few))
+
+  not_from_outside : (a b : Bool) → (a || b) ≡ false → a ≡ false
+  not_from_outside false b none = refl
+  not_from_outside true b none = none
+
+  -- where no more was delivered than is durable, nothing waits
+  pub none_waits : (r : Replica D) (durable delivered : ℕ) → durable ≡ (facts_of g r).durable → (r.stopped ≡ false → delivered ≡ delivered_of (facts_of g r)) → (r.stopped || is_some r.engine.halted) ≡ false → delivered ≤ durable
+      → (facts_of g r).ahead ≡ []
+  none_waits r durable delivered is_durable is_delivered running few =
+      let all = is_delivered (not_from_outside r.stopped (is_some r.engine.halted) running) in
+      none_long (facts_of g r).ahead (omega (arith, is_durable, all, few))
+
+  -- a block lessens what waits
+  pub told_smaller : (old new : Replica D) (was now : Counts) (before after : Option (List ℕ)) (x : Unit {0}) → TellsNext g old new was now before after (Ok x) → length (facts_of g new).ahead < length (facts_of g old).ahead
+  told_smaller old new was now before after x next =
+      let d = next.follows.durable in
+      let some = next.written.0 in
+      let within = d.within in
+      let none = sym (length-map next.follows.judged item_of) ∙ ap length next.follows.are_items in
+      omega (arith, ap length d.ahead, length-drop (length next.receipts) ((facts_of g old).ahead ++ next.follows.judged), length-append (facts_of g old).ahead next.follows.judged, none, some, within)
 
 -- ---- a block
 
@@ -221,9 +352,6 @@ module _ {D : Type 0} (g : Ghosts D) (joined : RunsAreJoined g) where
 none_written : (e : Refusal) (text : Option (List ℕ)) → WrittenNext [] text text (Err e)
 none_written StreamFault text = (0, Appends-nil text)
 none_written e text = (refl, Appends-nil text)
-
-pub tells_no_block : {D : Type 0} (g : Ghosts D) (pages : ℕ) (old new : Replica D) (e : Refusal) (text : Option (List ℕ)) → CommitsBlock g pages old new (Err e) → TellsNext g old new text text (Err e)
-tells_no_block g pages old new e text c = record { receipts = []; follows = follows_no_block g pages old new e c; few = omega arith; written = none_written e text }
 
 block_some : (s t : Standing) (replies : List Reply) → HasBlock s replies t → 0 < length replies
 block_some s t replies block = let size = block_size s t replies block in omega (arith, size, block.some)
@@ -237,15 +365,25 @@ block_written : (replies : List Reply) (before after : Option (List ℕ)) (r : R
 block_written replies before after (Ok x) some ok cut fault = (some, ok)
 block_written replies before after (Err e) some ok cut fault = subst (λ (f : Refusal). WrittenNext replies before after (Err f)) (sym fault) (cut.0, cut.2)
 
-pub tells_block : {D : Type 0} (g : Ghosts D) (pages : ℕ) (old new : Replica D) (replies : List Reply) (before after : Option (List ℕ)) (r : Result (Unit {0}) Refusal) → CommitsBlock g pages old new (Ok replies)
-    → OnOk r (Appends before after (receipt_lines replies)) → OnErr r ((k : ℕ) × (k < length (receipt_lines replies)) × Appends before after (take k (receipt_lines replies))) → IfErr r (λ e. e ≡ StreamFault)
-    → TellsNext g old new before after r
-tells_block g pages old new replies before after r c ok cut fault = record {
-  receipts = replies;
-  follows = follows_block g pages old new replies c;
-  few = block_few (facts_of g old) (facts_of g new) replies c.block;
-  written = block_written replies before after r (block_some (facts_of g old) (facts_of g new) replies c.block) ok cut fault;
-}
+module _ {D : Type 0} (g : Ghosts D) (pages : ℕ) (old new : Replica D) (was now : Counts) where
+  pub tells_no_block : (e : Refusal) (text : Option (List ℕ)) → CommitsBlock g pages old new (Err e) → HasSettled g old new was now → TellsNext g old new was now text text (Err e)
+  tells_no_block e text c is =
+      record { receipts = []; follows = follows_no_block g pages old new e c; few = omega arith; written = none_written e text; counted = counted_run g pages old new was now c.works.events c.works.answers c.told is; rests = tt; early = λ early. early_block g pages old new e c }
+
+  pub tells_block : (replies : List Reply) (before after : Option (List ℕ)) (r : Result (Unit {0}) Refusal) → CommitsBlock g pages old new (Ok replies)
+      → now ≡ risen_by was (tally [] replies 1 (one_where (nat_lt (facts_of g old).base (facts_of g new).base))) → OnOk r (Appends before after (receipt_lines replies))
+      → OnErr r ((k : ℕ) × (k < length (receipt_lines replies)) × Appends before after (take k (receipt_lines replies))) → IfErr r (λ e. e ≡ StreamFault) → TellsNext g old new was now before after r
+  tells_block replies before after r c is ok cut fault =
+      let some = block_some (facts_of g old) (facts_of g new) replies c.block in
+      record {
+        receipts = replies;
+        follows = follows_block g pages old new replies c;
+        few = block_few (facts_of g old) (facts_of g new) replies c.block;
+        written = block_written replies before after r some ok cut fault;
+        counted = counted_block g pages old new was now replies c some is;
+        rests = on_ok r c.block.phase;
+        early = early_stream (Runs c.works.events c.works.answers new ∷ []) r fault;
+      }
 
 -- ---- an item is taken
 
@@ -257,23 +395,71 @@ written_whole receipts before after (Err StreamFault) written =
 written_whole receipts before after (Err e) written = written
 
 -- those of one block, or a front of them
-written_next : (receipts : List Reply) (before after : Option (List ℕ)) (e : Refusal) → length receipts ≤ 64 → WrittenNext receipts before after (Err e) → Written receipts before after (Err e)
-written_next receipts before after StreamFault few w = ([], receipts, w.0, refl, few, w.1)
-written_next receipts before after e few w = subst (λ (rs : List Reply). Appends before after (receipt_lines rs)) (sym w.0) w.1
+written_next : (receipts : List Reply) (before after : Option (List ℕ)) (r : Result (Unit {0}) Refusal) → length receipts ≤ 64 → WrittenNext receipts before after r → Written receipts before after r
+written_next receipts before after (Ok x) few w = w.1
+written_next receipts before after (Err StreamFault) few w = ([], receipts, w.0, refl, few, w.1)
+written_next receipts before after (Err e) few w = subst (λ (rs : List Reply). Appends before after (receipt_lines rs)) (sym w.0) w.1
 
-module _ {D : Type 0} (g : Ghosts D) (joined : RunsAreJoined g) where
-  -- an item is taken, or refused, and nothing is told
-  pub goes_untold : (old new : Replica D) (items : List Item) (text : Option (List ℕ)) (r : Result (Unit {0}) Refusal) → Follows g old new items [] → Goes g old new items text text r
-  goes_untold old new items text r follows = record { receipts = []; follows = follows; written = written_whole [] text text r (Appends-nil text) }
+-- what is written behind what was written whole
+written_behind : (first then : List Reply) (before between after : Option (List ℕ)) (r : Result (Unit {0}) Refusal) → Appends before between (receipt_lines first) → Written then between after r → Written (first ++ then) before after r
+written_behind first then before between after (Ok x) one two = subst (Appends before after) (sym (lines_both first then)) (Appends-trans before between after (receipt_lines first) (receipt_lines then) one two)
+written_behind first then before between after (Err StreamFault) one two = (
+  first ++ two.0,
+  two.1,
+  two.2,
+  ap (λ l. first ++ l) two.3 ∙ sym (append_assoc first two.0 two.1),
+  two.4,
+  subst (Appends before after) (sym (ap (λ l. l ++ take two.2 (receipt_lines two.1)) (lines_both first two.0) ∙ append_assoc (receipt_lines first) (receipt_lines two.0) (take two.2 (receipt_lines two.1))))
+      (Appends-trans before between after (receipt_lines first) (receipt_lines two.0 ++ take two.2 (receipt_lines two.1)) one two.5),
+)
+written_behind first then before between after (Err e) one two = subst (Appends before after) (sym (lines_both first then)) (Appends-trans before between after (receipt_lines first) (receipt_lines then) one two)
 
-  -- the same behind a block that was told
-  pub goes_behind : (old mid new : Replica D) (items : List Item) (before after : Option (List ℕ)) (x : Unit {0}) (r : Result (Unit {0}) Refusal) → TellsNext g old mid before after (Ok x) → Follows g mid new items [] → Goes g old new items before after r
-  goes_behind old mid new items before after x r next follows = record {
-    receipts = next.receipts ++ [];
-    follows = follows_both g joined old mid new [] items next.receipts [] next.follows follows;
-    written = written_whole (next.receipts ++ []) before after r (subst (λ (rs : List Reply). Appends before after (receipt_lines rs)) (sym (append-nil next.receipts)) next.written.1);
+module _ {D : Type 0} (g : Ghosts D) where
+  -- nothing was done
+  pub goes_none : (r : Replica D) (was : Counts) (text : Option (List ℕ)) (x : Result (Unit {0}) Refusal) → HasCounters was → EndsAsAnswered {D = D} [] x → Goes g r r [] was was text text x
+  goes_none r was text x has early = record { receipts = []; follows = follows_none g r; written = written_whole [] text text x (Appends-nil text); counted = counted_none g r was has; rests = λ rests. on_ok x rests; early = early }
+
+  -- the next block became durable, or not
+  pub goes_next : (old new : Replica D) (was now : Counts) (before after : Option (List ℕ)) (r : Result (Unit {0}) Refusal) → TellsNext g old new was now before after r → Goes g old new [] was now before after r
+  goes_next old new was now before after r next = record { receipts = next.receipts; follows = next.follows; written = written_next next.receipts before after r next.few next.written; counted = next.counted; rests = λ rests. next.rests; early = next.early }
+
+  -- a node goes on twice
+  pub goes_both : (old mid new : Replica D) (items more : List Item) (was between now : Counts) (before written after : Option (List ℕ)) (x : Unit {0}) (r : Result (Unit {0}) Refusal)
+      → Goes g old mid items was between before written (Ok x) → Goes g mid new more between now written after r → Goes g old new (items ++ more) was now before after r
+  goes_both old mid new items more was between now before written after x r one two = record {
+    receipts = one.receipts ++ two.receipts;
+    follows = follows_both g old mid new items more one.receipts two.receipts one.follows two.follows;
+    written = written_behind one.receipts two.receipts before written after r one.written two.written;
+    counted = counted_both g old mid one.follows.episodes two.follows.episodes items more one.receipts two.receipts was between now one.follows.own one.follows.are one.counted two.counted;
+    rests = λ rests. two.rests (one.rests rests);
+    early = early_behind one.follows.episodes two.follows.episodes r two.early;
   }
 
-  -- the block failed
-  pub goes_ended : (old new : Replica D) (before after : Option (List ℕ)) (e : Refusal) → TellsNext g old new before after (Err e) → Goes g old new [] before after (Err e)
-  goes_ended old new before after e next = record { receipts = next.receipts; follows = next.follows; written = written_next next.receipts before after e next.few next.written }
+  -- with a refusal that is no step's
+  pub goes_refused : (old new : Replica D) (items : List Item) (was now : Counts) (before after : Option (List ℕ)) (x : Unit {0}) (r : Result (Unit {0}) Refusal) → ((es : List (Episode D)) → EndsAsAnswered es r)
+      → Goes g old new items was now before after (Ok x) → Goes g old new items was now before after r
+  goes_refused old new items was now before after x r early goes =
+      record { receipts = goes.receipts; follows = goes.follows; written = written_whole goes.receipts before after r goes.written; counted = goes.counted; rests = λ rests. on_ok r (goes.rests rests); early = early goes.follows.episodes }
+
+module _ {D : Type 0} (g : Ghosts D) (old new : Replica D) (i : Item) (was : Counts) where
+  -- an item is taken, and nothing is told
+  pub goes_item : (now : Counts) (text : Option (List ℕ)) (d : Delivers g old new i (Ok tt)) → now ≡ risen_by was (tally (i ∷ []) [] 0 0) → Goes g old new (i ∷ []) was now text text (Ok tt)
+  goes_item now text d is = record {
+    receipts = [];
+    follows = d.follows;
+    written = Appends-nil text;
+    counted = counted_items g old d.follows.episodes (i ∷ []) was now d.follows.own d.follows.given d.still is;
+    rests = λ rests. d.phase ∙ rests;
+    early = tt;
+  }
+
+  -- it is refused
+  pub goes_no_item : (text : Option (List ℕ)) (e : Refusal) (d : Delivers g old new i (Err e)) → HasCounters was → Goes g old new [] was was text text (Err e)
+  goes_no_item text e d has = record {
+    receipts = [];
+    follows = d.follows;
+    written = written_whole [] text text (Err e) (Appends-nil text);
+    counted = counted_items g old d.follows.episodes [] was was d.follows.own d.follows.given d.still (risen_not was has);
+    rests = λ rests. tt;
+    early = λ early. d.answered;
+  }

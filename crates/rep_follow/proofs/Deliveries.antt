@@ -17,12 +17,14 @@ use Rattle.rep_steps.specs.Events.{delivery}
 use Rattle.rep_steps.specs.Orders.{accepted}
 use Rattle.rep_steps.specs.Runs.{acknowledged}
 use Rattle.rep_replica.specs.Replicas.{Replica, facts_of}
+use Rattle.rep_replica.specs.Episodes.{Runs}
 use Rattle.rep_replica.specs.Holding.{IsStep}
 use Rattle.rep_replica.specs.Running.{RunsAreJoined}
 use Rattle.rep_replica.specs.Settling.{outcome_of}
 use Rattle.rep_follow.specs.Committing.{IsDurableBy, Follows}
-use Rattle.rep_follow.specs.Taking.{taken_by}
-use Rattle.rep_follow.proofs.Committing.{none_durable}
+use Rattle.rep_follow.specs.Taking.{Delivers}
+use Rattle.rep_follow.proofs.Committing.{none_durable, follows_run}
+use Rattle.rep_follow.proofs.Counting.{still_run}
 
 -- the item was taken, with a verdict; or it is refused, and nothing changes
 abbrev pub Came : Standing → ℕ → Item → Answer → Standing → Option Refusal → Type 0
@@ -59,51 +61,44 @@ module _ {D : Type 0} (g : Ghosts D) (joined : RunsAreJoined g) (old new : Repli
   came : Came (facts_of g old) seqno i a (facts_of g new) (refusal (facts_of g old) (delivery seqno i))
   came = came_by (facts_of g old) (facts_of g new) seqno i a (refusal (facts_of g old) (delivery seqno i)) step.moves
 
-  taken_as : (v : Verdict) → a ≡ Gave v → facts_of g new ≡ with_item (facts_of g old) i v → Follows g old new (i ∷ []) []
-  taken_as v is to = record {
-    events = delivery seqno i ∷ [];
-    answers = a ∷ [];
-    paired = refl;
-    ran = joined.one_run old new (delivery seqno i) a step;
-    accepted = append-nil (accepted (delivery seqno i) a) ∙ ap (accepted (delivery seqno i)) is ∙ accepted_gave seqno i v;
-    given = ap (λ (b : Answer). acknowledged (b ∷ [])) is;
-    judged = next_item (facts_of g old) i v ∷ [];
-    are_items = refl;
-    durable = one_more (facts_of g old) (facts_of g new) i v to;
-  }
+  abbrev taken_as : (v : Verdict) → a ≡ Gave v → facts_of g new ≡ with_item (facts_of g old) i v → Follows g old new (i ∷ []) []
+  taken_as v is to = follows_run g old new (delivery seqno i ∷ []) (a ∷ []) (next_item (facts_of g old) i v ∷ []) (i ∷ []) [] refl (joined.one_run old new (delivery seqno i) a step)
+      (append-nil (accepted (delivery seqno i) a) ∙ ap (accepted (delivery seqno i)) is ∙ accepted_gave seqno i v) (ap (λ (b : Answer). acknowledged (b ∷ [])) is) refl
+      (one_more (facts_of g old) (facts_of g new) i v to)
 
-  refused_as : (r : Refusal) → a ≡ Refused r → facts_of g new ≡ facts_of g old → Follows g old new [] []
-  refused_as r is to = record {
-    events = delivery seqno i ∷ [];
-    answers = a ∷ [];
-    paired = refl;
-    ran = joined.one_run old new (delivery seqno i) a step;
-    accepted = append-nil (accepted (delivery seqno i) a) ∙ ap (accepted (delivery seqno i)) is ∙ accepted_refused seqno i r;
-    given = ap (λ (b : Answer). acknowledged (b ∷ [])) is;
-    judged = [];
-    are_items = refl;
-    durable = none_durable (facts_of g old) (facts_of g new) (ap (λ (u : Standing). u.durable) to) (ap (λ (u : Standing). u.ahead) to);
-  }
+  abbrev refused_as : (r : Refusal) → a ≡ Refused r → facts_of g new ≡ facts_of g old → Follows g old new [] []
+  refused_as r is to = follows_run g old new (delivery seqno i ∷ []) (a ∷ []) [] [] [] refl (joined.one_run old new (delivery seqno i) a step)
+      (append-nil (accepted (delivery seqno i) a) ∙ ap (accepted (delivery seqno i)) is ∙ accepted_refused seqno i r) (ap (λ (b : Answer). acknowledged (b ∷ [])) is) refl
+      (none_durable (facts_of g old) (facts_of g new) (ap (λ (u : Standing). u.durable) to) (ap (λ (u : Standing). u.ahead) to))
 
   -- it was taken, where it wasn't refused
   taken_by_cases : (o : Option Refusal) → refusal (facts_of g old) (delivery seqno i) ≡ o → Came (facts_of g old) seqno i a (facts_of g new) o → ((r : Refusal) → a ≡ Refused r → ⊥)
-      → Follows g old new (i ∷ []) [] × (refusal (facts_of g old) (delivery seqno i) ≡ None)
-  taken_by_cases None none c not = (taken_as c.0 c.1 c.2, none)
+      → Delivers g old new i (Ok tt) × (refusal (facts_of g old) (delivery seqno i) ≡ None)
+  taken_by_cases None none c not =
+      (record { follows = taken_as c.0 c.1 c.2; still = still_run g old new (delivery seqno i ∷ []) (a ∷ []) (ap (λ (u : Standing). u.base) c.2); answered = tt; phase = ap (λ (u : Standing). u.phase) c.2; same = tt }, none)
   taken_by_cases (Some r) some c not = absurd (not r c.0)
 
-  pub is_taken : ((r : Refusal) → a ≡ Refused r → ⊥) → Follows g old new (i ∷ []) [] × (refusal (facts_of g old) (delivery seqno i) ≡ None)
+  pub is_taken : ((r : Refusal) → a ≡ Refused r → ⊥) → Delivers g old new i (Ok tt) × (refusal (facts_of g old) (delivery seqno i) ≡ None)
   is_taken not = taken_by_cases (refusal (facts_of g old) (delivery seqno i)) refl came not
 
   -- it was refused
   refused_by_cases : (o : Option Refusal) → refusal (facts_of g old) (delivery seqno i) ≡ o → Came (facts_of g old) seqno i a (facts_of g new) o → (r : Refusal) → a ≡ Refused r
-      → Follows g old new [] [] × (refusal (facts_of g old) (delivery seqno i) ≡ Some r)
+      → Delivers g old new i (Err r) × (refusal (facts_of g old) (delivery seqno i) ≡ Some r)
   refused_by_cases None none c r is = absurd (let never : Gave c.0 ≡ Refused r = sym c.1 ∙ is in cc)
   refused_by_cases (Some e) some c r is =
       let same : Refused e ≡ Refused r = sym c.0 ∙ is in
-      let one : e ≡ r = cc in
-      (refused_as r is c.1, some ∙ ap Some one)
+      let one : e ≡ r = cc in (
+        record {
+          follows = refused_as r is c.1;
+          still = still_run g old new (delivery seqno i ∷ []) (a ∷ []) (ap (λ (u : Standing). u.base) c.1);
+          answered = ([], delivery seqno i ∷ [], [], new, ap (λ (b : Answer). Runs (delivery seqno i ∷ []) (b ∷ []) new ∷ []) is);
+          phase = ap (λ (u : Standing). u.phase) c.1;
+          same = c.1;
+        },
+        some ∙ ap Some one,
+      )
 
-  pub is_refused : (r : Refusal) → a ≡ Refused r → Follows g old new [] [] × (refusal (facts_of g old) (delivery seqno i) ≡ Some r)
+  pub is_refused : (r : Refusal) → a ≡ Refused r → Delivers g old new i (Err r) × (refusal (facts_of g old) (delivery seqno i) ≡ Some r)
   is_refused r is = refused_by_cases (refusal (facts_of g old) (delivery seqno i)) refl came r is
 
 -- ---- why it is refused
@@ -143,18 +138,18 @@ delivery_own s seqno i r is same = let both : true ≡ false = ap is_stream (ap 
 
 -- what is said of a delivery with this result
 pub record Delivered {D : Type 0} (g : Ghosts D) (old new : Replica D) (seqno : ℕ) (i : Item) (r : Result (Unit {0}) Refusal) : Type 0 where
-  pub follows : Follows g old new (taken_by i r) []
+  pub delivers : Delivers g old new i r
   pub own : IfErr r (λ e. e ≢ StreamFault)
   pub exact : MatchResult r (λ _. refusal (facts_of g old) (delivery seqno i) ≡ None) (λ e. refusal (facts_of g old) (delivery seqno i) ≡ Some e)
 
 module _ {D : Type 0} (g : Ghosts D) (joined : RunsAreJoined g) (old new : Replica D) (seqno : ℕ) (i : Item) (a : Answer) (step : IsStep g old (delivery seqno i) a new) where
   done : ((r : Refusal) → a ≡ Refused r → ⊥) → Delivered g old new seqno i (Ok tt)
-  done not = let came = is_taken g joined old new seqno i a step not in record { follows = came.0; own = tt; exact = came.1 }
+  done not = let came = is_taken g joined old new seqno i a step not in record { delivers = came.0; own = tt; exact = came.1 }
 
   by_answer : (b : Answer) → a ≡ b → Delivered g old new seqno i (outcome_of b)
   by_answer (Refused e) is =
       let came = is_refused g joined old new seqno i a step e is in
-      record { follows = came.0; own = delivery_own (facts_of g old) seqno i e came.1; exact = came.1 }
+      record { delivers = came.0; own = delivery_own (facts_of g old) seqno i e came.1; exact = came.1 }
   by_answer (Gave v) is = done (λ r refused. absurd (let never : Gave v ≡ Refused r = sym is ∙ refused in cc))
   by_answer Wrote is = done (λ r refused. absurd (let never : Wrote ≡ Refused r = sym is ∙ refused in cc))
   by_answer (Began n) is = done (λ r refused. absurd (let never : Began n ≡ Refused r = sym is ∙ refused in cc))

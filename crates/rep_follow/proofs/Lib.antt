@@ -1,5 +1,11 @@
+pub mod Beginning
 pub mod Committing
+pub mod Counting
 pub mod Deliveries
 pub mod Feeds
 pub mod Groups
+pub mod Joins
 pub mod Noting
+pub mod Settled
+pub mod Stops
+pub mod Followers

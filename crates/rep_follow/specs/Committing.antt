@@ -1,20 +1,25 @@
 -- How a node makes all that was delivered durable, and tells it.
-use Rattle.std.specs.Prelude.{◌≡◌, ℕ, ◌+◌, ◌*◌, ◌-◌, ◌<◌, ◌≤◌, List, [], ◌++◌, length, map, take, drop, Option, Result, Ok, Err, OnOk}
+use Rattle.std.specs.Prelude.{◌≡◌, ◌⊎◌, ◌&&◌, Bool, true, false, nat_lt, nat_le, ℕ, ◌+◌, ◌*◌, ◌-◌, ◌<◌, ◌≤◌, List, [], ◌∷◌, ◌++◌, length, map, take, drop, Option, Result, Ok, Err, OnOk, IfErr, MatchResult}
 use Rattle.std.specs.Io.KnownBytes.{Appends}
 use Rattle.rep_types.specs.declared.item.Item.{Item}
 use Rattle.rep_types.specs.declared.judged.Judged.{Judged}
 use Rattle.rep_types.specs.declared.reply.Reply.{Reply}
 use Rattle.rep_types.specs.declared.refusal.Refusal.{Refusal}
-use Rattle.rep_types.specs.declared.refusal.Refusal.TheVariants.{StreamFault}
+use Rattle.rep_types.specs.declared.refusal.Refusal.TheVariants.{StreamFault, Stopped, OutOfMemory}
 use Rattle.rep_types.specs.Replies.{reply_of}
 use Rattle.rep_disk.specs.declared.disk.Disk.{Ghosts}
+use Rattle.rep_log.specs.declared.phase.Phase.TheVariants.{Resting}
 use Rattle.rep_steps.specs.declared.event.Event.{Event}
 use Rattle.rep_steps.specs.declared.answer.Answer.{Answer}
-use Rattle.rep_steps.specs.Standings.{Standing}
-use Rattle.rep_steps.specs.Runs.{accepted_by, acknowledged}
+use Rattle.rep_steps.specs.declared.answer.Answer.TheVariants.{Refused}
+use Rattle.rep_steps.specs.Standings.{Standing, Flushing, Toward}
+use Rattle.rep_steps.specs.Runs.{accepted_by}
 use Rattle.rep_replica.specs.Replicas.{Replica, facts_of}
-use Rattle.rep_replica.specs.Running.{Ran}
+use Rattle.rep_replica.specs.Episodes.{Episode, Runs, GivesUp, Brings, Breaks, AreEpisodes, replies_of}
+use Rattle.rep_replica.specs.Settling.{EndsEarly, is_quiet}
+use Rattle.rep_follow.specs.declared.counts.Counts.{Counts}
 use Rattle.rep_follow.specs.Receipts.{receipt_lines}
+use Rattle.rep_follow.specs.Counting.{AreCounted, checkpoints_in}
 
 -- These are the receipts of the first items that were not durable, and of those that were judged behind them: they are durable now, each receipt is
 -- that of its item, in order and once. Nothing else that was delivered is lost.
@@ -27,17 +32,45 @@ pub record IsDurableBy (s : Standing) (judged : List Judged) (receipts : List Re
 abbrev pub item_of : Judged → Item
 item_of j = j.item
 
--- The replica ran: these items were delivered to it, and these receipts are the replies that it gave.
+-- Parts of a life to which no snapshot comes: in each of them the replica ran, with an answer to each event, or what was begun was given up, as
+-- what only asks the device is.
+abbrev pub BringNothing : {D : Type 0} → List (Episode D) → Type 0
+BringNothing [] = Unit {0}
+BringNothing (Runs events answers to ∷ es) = (length events ≡ length answers) × BringNothing es
+BringNothing (GivesUp to ∷ es) = BringNothing es
+BringNothing (Brings uuid y to ∷ es) = ⊥
+BringNothing (Breaks uuid y to ∷ es) = ⊥
+
+-- the items that were delivered in the runs
+abbrev pub accepted_in : {D : Type 0} → List (Episode D) → List Item
+accepted_in [] = []
+accepted_in (Runs events answers to ∷ es) = accepted_by events answers ++ accepted_in es
+accepted_in (GivesUp to ∷ es) = accepted_in es
+accepted_in (Brings uuid y to ∷ es) = accepted_in es
+accepted_in (Breaks uuid y to ∷ es) = accepted_in es
+
+-- A part of a life went by, one episode after another: these items were delivered to the replica, and these receipts are the replies that it gave.
 pub record Follows {D : Type 0} (g : Ghosts D) (old new : Replica D) (items : List Item) (receipts : List Reply) : Type 0 where
-  pub events : List Event
-  pub answers : List Answer
-  pub paired : length events ≡ length answers
-  pub ran : Ran g old new events answers
-  pub accepted : accepted_by events answers ≡ items
-  pub given : acknowledged answers ≡ receipts
+  pub episodes : List (Episode D)
+  pub are : AreEpisodes g old episodes new
+  pub own : BringNothing episodes
+  pub accepted : accepted_in episodes ≡ items
+  pub given : replies_of episodes ≡ receipts
   pub judged : List Judged
   pub are_items : map item_of judged ≡ items
   pub durable : IsDurableBy (facts_of g old) judged receipts (facts_of g new)
+
+-- The last step that was taken was refused so.
+abbrev pub IsLastAnswer : {D : Type 0} → List (Episode D) → Refusal → Type 0
+IsLastAnswer {D} episodes e = (before : List (Episode D)) × (events : List Event) × (done : List Answer) × (to : Replica D) × (episodes ≡ before ++ Runs events (done ++ Refused e ∷ []) to ∷ [])
+
+-- Want of memory, a fault of the device and a corrupt page are told only where the last step was refused so.
+abbrev pub EndsAsAnswered : {D T : Type 0} → List (Episode D) → Result T Refusal → Type 0
+EndsAsAnswered episodes result = IfErr result (λ e. EndsEarly e → IsLastAnswer episodes e)
+
+-- The replica is held up by this refusal: it is stopped; or a step was refused for want of memory, by the device, or at a corrupt page.
+abbrev pub IsHeldUp : {D : Type 0} → Ghosts D → Replica D → Refusal → Type 0
+IsHeldUp g new e = ((e ≡ Stopped) × ((facts_of g new).stopped ≡ true)) ⊎ EndsEarly e
 
 -- What is written of receipts: all of them. Where the writer failed, those of all blocks but the last are written, and a front of that one's.
 abbrev pub Written : List Reply → Option (List ℕ) → Option (List ℕ) → Result (Unit {0}) Refusal → Type 0
@@ -46,11 +79,15 @@ Written receipts before after (Err StreamFault) =
 Written receipts before after result = Appends before after (receipt_lines receipts)
 
 -- The node went on: these items were delivered, and what became durable was told. So a receipt is written of a durable item alone; and all but a
--- part of the last block's are written, where the writer failed.
-pub record Goes {D : Type 0} (g : Ghosts D) (old new : Replica D) (items : List Item) (before after : Option (List ℕ)) (result : Result (Unit {0}) Refusal) : Type 0 where
+-- part of the last block's are written, where the writer failed. The counters rose by what was done. Where it ended well, a log that was at rest is
+-- at rest again; and a refusal of a step is the last answer.
+pub record Goes {D : Type 0} (g : Ghosts D) (old new : Replica D) (items : List Item) (was now : Counts) (before after : Option (List ℕ)) (result : Result (Unit {0}) Refusal) : Type 0 where
   pub receipts : List Reply
   pub follows : Follows g old new items receipts
   pub written : Written receipts before after result
+  pub counted : AreCounted g old follows.episodes items receipts was now
+  pub rests : (facts_of g old).phase ≡ Resting → OnOk result ((facts_of g new).phase ≡ Resting)
+  pub early : EndsAsAnswered follows.episodes result
 
 -- The next block became durable, and was told: with a refusal nothing more is durable, but where the writer failed.
 abbrev pub WrittenNext : List Reply → Option (List ℕ) → Option (List ℕ) → Result (Unit {0}) Refusal → Type 0
@@ -58,16 +95,57 @@ WrittenNext receipts before after (Ok _) = (0 < length receipts) × Appends befo
 WrittenNext receipts before after (Err StreamFault) = (k : ℕ) × Appends before after (take k (receipt_lines receipts))
 WrittenNext receipts before after (Err refusal) = (receipts ≡ []) × Appends before after []
 
-pub record TellsNext {D : Type 0} (g : Ghosts D) (old new : Replica D) (before after : Option (List ℕ)) (result : Result (Unit {0}) Refusal) : Type 0 where
+-- What is told of it is counted, and a refusal of a step is the last answer.
+pub record TellsNext {D : Type 0} (g : Ghosts D) (old new : Replica D) (was now : Counts) (before after : Option (List ℕ)) (result : Result (Unit {0}) Refusal) : Type 0 where
   pub receipts : List Reply
   pub follows : Follows g old new [] receipts
   pub few : length receipts ≤ 64
   pub written : WrittenNext receipts before after result
+  pub counted : AreCounted g old follows.episodes [] receipts was now
+  pub rests : OnOk result ((facts_of g new).phase ≡ Resting)
+  pub early : EndsAsAnswered follows.episodes result
 
--- All that was delivered became durable, and was told, those of a block before the next one is begun.
-pub record TellsAll {D : Type 0} (g : Ghosts D) (old new : Replica D) (before after : Option (List ℕ)) (result : Result (Unit {0}) Refusal) : Type 0 where
-  pub goes : Goes g old new [] before after result
+-- All that was delivered became durable, and was told, those of a block before the next one is begun. Where something had waited, the log is at rest
+-- then.
+pub record TellsAll {D : Type 0} (g : Ghosts D) (old new : Replica D) (was now : Counts) (before after : Option (List ℕ)) (result : Result (Unit {0}) Refusal) : Type 0 where
+  pub goes : Goes g old new [] was now before after result
   pub all : OnOk result ((facts_of g new).ahead ≡ [])
+  pub rests : 0 < length (facts_of g old).ahead → OnOk result ((facts_of g new).phase ≡ Resting)
+
+-- ---- a checkpoint that begins
+
+-- Whether a checkpoint is due to begin: all that was delivered is durable, and some of it is behind the base; none is under way; and at least half
+-- of the log's cells are live.
+abbrev pub is_checkpoint_due : Standing → Bool
+is_checkpoint_due s = is_quiet s && (nat_lt s.base s.durable && nat_le s.setting.cells (2 * (s.next - s.start)))
+
+-- A checkpoint to what is durable has begun, with some pages left, and nothing else moved.
+abbrev pub HasBegun : Standing → Standing → Type 0
+HasBegun s t = (left : List ℕ) × (t ≡ record s { stage = Toward (record { position = s.durable; start = s.next }) (Flushing left) })
+
+-- A checkpoint began exactly where one was due, unless that was refused; and else nothing changed. Nothing is delivered, and no reply given.
+pub record Begins {D : Type 0} (g : Ghosts D) (old new : Replica D) (result : Result (Unit {0}) Refusal) : Type 0 where
+  pub follows : Follows g old new [] []
+  pub still : checkpoints_in g old follows.episodes ≡ 0
+  pub answered : IfErr result (IsLastAnswer follows.episodes)
+  pub phase : (facts_of g new).phase ≡ (facts_of g old).phase
+  pub not_due : is_checkpoint_due (facts_of g old) ≡ false → (result ≡ Ok tt) × (new ≡ old)
+  pub due : is_checkpoint_due (facts_of g old) ≡ true
+      → MatchResult result (λ _. HasBegun (facts_of g old) (facts_of g new)) (λ e. (facts_of g new ≡ facts_of g old) × (((e ≡ Stopped) × ((facts_of g new).stopped ≡ true)) ⊎ (e ≡ OutOfMemory)))
+
+-- what follows where that ended well
+abbrev pub AndBegins : {D : Type 0} → Ghosts D → Result (Unit {0}) Refusal → Replica D → Replica D → Result (Unit {0}) Refusal → Type 0
+AndBegins g (Ok x) mid new result = Begins g mid new result
+AndBegins g (Err e) mid new result = (result ≡ Err e) × (new ≡ mid)
+
+-- All that was delivered became durable, and was told; and where that ended well, a checkpoint began if one was due then.
+pub record TellsAndBegins {D : Type 0} (g : Ghosts D) (old new : Replica D) (was now : Counts) (before after : Option (List ℕ)) (result : Result (Unit {0}) Refusal) : Type 0 where
+  pub mid : Replica D
+  pub told : Result (Unit {0}) Refusal
+  pub tells : TellsAll g old mid was now before after told
+  pub begins : AndBegins g told mid new result
+
+-- ---- pages
 
 -- How many pages of the checkpoint under way go with the next block, where so many cells are free and so many pages are left: so many that it
 -- ends before the log is full, and not one more; and all with fewer than 8 cells free.

@@ -5,11 +5,12 @@ ghost use Rattle.rep_streams.specs.Streams.{Notes};
 ghost use Rattle.rep_requests.specs.Requests.{requested};
 ghost use Rattle.rep_follow.specs.Taking.{item_at, TakesLines};
 
+use crate::counts::Counts;
 use crate::taking::take;
 use arrayvec::ArrayVec;
 use rep_disk::Disk;
 use rep_lines::{Feed, MAX_KEPT};
-use rep_replica::{Replica, runs_are_joined};
+use rep_replica::Replica;
 use rep_requests::{Request, read_request};
 use rep_streams::Sink;
 use rep_types::{Item, Refusal};
@@ -30,15 +31,16 @@ fn item_of(line: &[u8], seqno: u64) -> Option<Item>
 /// Refuses as `take` does, with the item that was handed out last not taken; and with `Exhausted` where no number of 64 bits is left.
 pub fn take_lines<D: Disk, W: Sink>(
     replica: &mut Replica<D>,
+    counts: &mut Counts,
     feed: &mut Feed,
     next: &mut u64,
     line: &mut ArrayVec<u8, MAX_KEPT>,
     writer: &mut W,
 ) -> Result<bool, Refusal>
-    ensures takes { TakesLines D.Disk next.old replica.old replica.new feed.old feed.new line.new.items (W.contents writer.old) (W.contents writer.new) result next.new }
+    ensures takes { TakesLines D.Disk next.old replica.old replica.new counts.old counts.new feed.old feed.new line.new.items (W.contents writer.old) (W.contents writer.new) result next.new }
     ensures notes { Notes (W.failed writer.old) (W.failed writer.new) result }
 {
-    runs_are_joined::<D>();
+    counts.limits();
     'whole: while feed.next_whole(line) {
         let seqno = *next;
         let Some(item) = item_of(line, seqno) else {
@@ -47,7 +49,7 @@ pub fn take_lines<D: Disk, W: Sink>(
         let Some(after) = seqno.checked_add(1) else {
             return Err(Refusal::Exhausted);
         };
-        if let Err(refusal) = take(replica, writer, seqno, item) {
+        if let Err(refusal) = take(replica, counts, writer, seqno, item) {
             return Err(refusal);
         }
         *next = after;

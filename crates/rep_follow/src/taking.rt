@@ -1,31 +1,20 @@
 //! The items of the order are taken.
 
-ghost use Rattle.std.specs.Prelude.{◌≡◌, ◌≢◌, ◌<◌, ◌||◌, true, false, is_some, length, None, Some, MatchResult, IfErr, []};
+ghost use Rattle.std.specs.Prelude.{◌≡◌, ◌≢◌, ◌<◌, ◌||◌, true, false, is_some, length, ℕ, List, Option, None, Some, MatchResult, IfErr};
 ghost use Rattle.rep_streams.specs.Streams.{Notes};
 ghost use Rattle.rep_steps.specs.Standings.{refusal};
 ghost use Rattle.rep_steps.specs.Events.{delivery};
 ghost use Rattle.rep_replica.specs.Replicas.{facts_of};
-ghost use Rattle.rep_replica.specs.Settling.{outcome_of};
-ghost use Rattle.rep_follow.specs.Committing.{Follows, Goes};
-ghost use Rattle.rep_follow.specs.Taking.{taken_by};
+ghost use Rattle.rep_follow.specs.Committing.{Goes};
+ghost use Rattle.rep_follow.specs.Taking.{taken_by, Delivers, IsNotTaken};
 
-use crate::blocks::commit_next;
+use crate::blocks::{commit_next, outcome};
+use crate::counts::Counts;
 use rep_disk::Disk;
 use rep_replica::{Replica, runs_are_joined};
-use rep_steps::{Answer, Event};
+use rep_steps::Event;
 use rep_streams::Sink;
 use rep_types::{Item, MAX_AHEAD, Refusal};
-
-/// What came of a step.
-fn outcome(answer: Answer) -> Result<(), Refusal>
-    ensures { result ≡ outcome_of answer }
-{
-    match answer {
-        Answer::Refused(refusal) => Err(refusal),
-        Answer::Gave(_) | Answer::Wrote | Answer::Began(_) | Answer::Synced(_) | Answer::Row(_) =>
-            Ok(()),
-    }
-}
 
 /// Delivers the item with this seqno of the order.
 ///
@@ -33,7 +22,7 @@ fn outcome(answer: Answer) -> Result<(), Refusal>
 /// `OutOfOrder` where the seqno is not the next one; and with `Backlogged` where 256 items are delivered and not durable. Nothing changes
 /// then.
 pub fn deliver<D: Disk>(replica: &mut Replica<D>, seqno: u64, item: Item) -> Result<(), Refusal>
-    ensures follows { Follows D.Disk replica.old replica.new (taken_by item result) [] }
+    ensures delivers { Delivers D.Disk replica.old replica.new item result }
     // No item is refused as a stream that has failed.
     ensures own { IfErr result (λ e. e ≢ Refusal.StreamFault) }
     // The first refusal that applies is the answer, and where none does, it is taken.
@@ -54,24 +43,50 @@ fn is_backlogged<D: Disk>(replica: &Replica<D>) -> bool
     replica.delivered().saturating_sub(replica.durable()) >= MAX_AHEAD
 }
 
-/// Takes the item with this seqno of the order: where 256 items are delivered and not durable, a block of them is made durable first, and told.
+/// Delivers the item with this seqno of the order, and counts it where it is taken.
 ///
-/// Refuses as `commit` does where a block comes first, and else as `deliver` does.
+/// Refuses as `deliver` does.
+fn deliver_counted<D: Disk>(
+    replica: &mut Replica<D>,
+    counts: &mut Counts,
+    seqno: u64,
+    item: Item,
+) -> Result<(), Refusal>
+    ensures goes { (text : Option (List ℕ)) → Goes D.Disk replica.old replica.new (taken_by item result) counts.old counts.new text text result }
+    ensures own { IfErr result (λ e. e ≢ Refusal.StreamFault) }
+    ensures refused { IfErr result (λ e. refusal (facts_of D.Disk replica.new) (delivery seqno item) ≡ Some e) }
+{
+    counts.limits();
+    let more = Counts::of_item(&item);
+    match deliver(replica, seqno, item) {
+        Ok(()) => {
+            counts.rise(&more);
+            Ok(())
+        }
+        Err(refusal) => Err(refusal),
+    }
+}
+
+/// Takes the item with this seqno of the order, and counts it: where 256 items are delivered and not durable, a block of them is made durable
+/// first, and told.
+///
+/// Refuses as `commit` does where a block comes first, and else as `deliver` does. The item is not taken then.
 pub fn take<D: Disk, W: Sink>(
     replica: &mut Replica<D>,
+    counts: &mut Counts,
     writer: &mut W,
     seqno: u64,
     item: Item,
 ) -> Result<(), Refusal>
-    ensures goes { Goes D.Disk replica.old replica.new (taken_by item result) (W.contents writer.old) (W.contents writer.new) result }
+    ensures goes { Goes D.Disk replica.old replica.new (taken_by item result) counts.old counts.new (W.contents writer.old) (W.contents writer.new) result }
     ensures notes { Notes (W.failed writer.old) (W.failed writer.new) result }
+    ensures refused { IfErr result (IsNotTaken D.Disk replica.new seqno item) }
 {
-    runs_are_joined::<D>();
     if !is_backlogged(replica) {
-        return deliver(replica, seqno, item);
+        return deliver_counted(replica, counts, seqno, item);
     }
-    match commit_next(replica, writer) {
-        Ok(()) => deliver(replica, seqno, item),
+    match commit_next(replica, counts, writer) {
+        Ok(()) => deliver_counted(replica, counts, seqno, item),
         Err(refusal) => Err(refusal),
     }
 }

@@ -1,6 +1,6 @@
 //! Items that are followed from a text in memory, on a disk in memory.
 
-use crate::{End, follow_items};
+use crate::{Counts, End, finish, follow_items};
 use arrayvec::ArrayVec;
 use rep_disk::MemDisk;
 use rep_layout::need;
@@ -40,8 +40,10 @@ fn is_followed(
     let mut feed = Feed::new();
     let mut line = ArrayVec::<u8, MAX_KEPT>::new();
     let mut next = 1;
+    let mut counts = Counts::new();
     let found = follow_items(
         &mut replica,
+        &mut counts,
         &mut feed,
         &mut next,
         &mut line,
@@ -87,4 +89,69 @@ fn items_are_followed_to_their_end(rt: HostRuntime) {
             (text, Ok(true))
         );
     }
+}
+
+/// What is counted of the items of this text, where the node ends behind them.
+fn counts_of(alloc: Global, text: &str) -> Result<Counts, Refusal> {
+    let mut replica = replica(alloc)?;
+    let mut source = MemorySource::new(text.as_bytes());
+    let mut sink = MemorySink::new(alloc);
+    let mut feed = Feed::new();
+    let mut line = ArrayVec::<u8, MAX_KEPT>::new();
+    let mut next = 1;
+    let mut counts = Counts::new();
+    let _end = follow_items(
+        &mut replica,
+        &mut counts,
+        &mut feed,
+        &mut next,
+        &mut line,
+        &mut source,
+        &mut sink,
+    )?;
+    finish(&mut replica, &mut counts, &mut sink)?;
+    Ok(counts)
+}
+
+/// So many lines, none of which is an item.
+fn unreadable_lines(alloc: Global, count: u64) -> Result<String, Refusal> {
+    let mut text = String::new(alloc);
+    for seqno in 1..=count {
+        text.push_str(&format!(in alloc; "{seqno} state\n")?)?;
+    }
+    Ok(text)
+}
+
+#[test]
+fn each_verdict_is_counted(rt: HostRuntime) {
+    let text =
+        "1 item 0 w 0/1=61\n2 item 0 r 0/1 w 0/2=62\n3 item 9 w 0/1=63\n4 state\n5 item 4 w 0/3-\n";
+    let counts = Counts {
+        items: 5,
+        blocks: 1,
+        commit: 2,
+        conflict: 1,
+        future: 1,
+        badkey: 1,
+        unreadable: 1,
+        ..Counts::new()
+    };
+    assert_eq!(rt; counts_of(rt.alloc(), text), Ok(counts));
+}
+
+// Three blocks fill three of four cells, so that a checkpoint begins, which the end of the text ends.
+#[test]
+fn a_checkpoint_begins_where_half_of_the_cells_are_live(rt: HostRuntime) {
+    let counts = Counts {
+        items: 130,
+        blocks: 3,
+        checkpoints: 1,
+        badkey: 130,
+        unreadable: 130,
+        ..Counts::new()
+    };
+    let Ok(text) = unreadable_lines(rt.alloc(), 130) else {
+        panic!(rt; "memory");
+    };
+    assert_eq!(rt; counts_of(rt.alloc(), &text), Ok(counts));
 }

@@ -1,6 +1,6 @@
 //! What in a line is not of its form: the line is read a second time, word by word.
 
-use crate::words::{wrong_key, wrong_label, wrong_number, wrong_write};
+use crate::words::{wrong_gtid, wrong_key, wrong_label, wrong_number, wrong_write};
 use rep_record::{MAX_LINE, Words};
 use std::fmt;
 
@@ -15,6 +15,10 @@ pub(crate) enum Kind {
     Command,
     /// A command of a script on a disk that is a file, which knows no stop.
     CommandOnFile,
+    /// The line that says behind which position the items come that a node follows.
+    Position,
+    /// A line that asks something of a node that follows an order.
+    Asked,
 }
 
 /// What is wrong in a line, and at which word, from 1; at no word where it is of the whole line.
@@ -286,6 +290,24 @@ impl<'a> Counted<'a> {
         self.command()
     }
 
+    /// Reads the line that says the position.
+    fn position(&mut self) -> Result<(), Wrong> {
+        if !self.skip(b"order") {
+            self.next()?;
+            return Err(self.wrong("not `order`, by which the text has to begin"));
+        }
+        let word = self.next()?;
+        self.found(wrong_gtid(word))?;
+        self.end()
+    }
+
+    /// Reads a line that asks something of a node: one that is malformed has no seqno, though it begins with a digit.
+    fn asked(&mut self) -> Result<(), Wrong> {
+        let word = self.next()?;
+        self.found(wrong_number(word, u64::MAX))?;
+        Err(self.wrong("a number of over 20 digits, or without a space behind it"))
+    }
+
     /// Reads a line of this kind.
     fn line(&mut self, kind: Kind) -> Result<(), Wrong> {
         match kind {
@@ -293,6 +315,8 @@ impl<'a> Counted<'a> {
             Kind::Item => self.item(),
             Kind::Command => self.command_in_memory(),
             Kind::CommandOnFile => self.command_on_file(),
+            Kind::Position => self.position(),
+            Kind::Asked => self.asked(),
         }
     }
 }
@@ -313,6 +337,9 @@ fn wrong_byte(line: &[u8]) -> Option<&'static str> {
 
 /// What is wrong with a line that is to be of this kind, and is malformed.
 pub(crate) fn wrong_with(kind: Kind, line: &[u8]) -> Option<Wrong> {
+    if let Kind::Asked = kind {
+        return Counted::of(line).line(kind).err();
+    }
     if line.len() > MAX_LINE {
         return Some(Wrong::with_line("over 4,096 bytes"));
     }

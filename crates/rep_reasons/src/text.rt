@@ -14,13 +14,13 @@ use rep_types::{Refusal, read_number};
 use std::fmt;
 use std::io::{self, Read};
 
-/// So many bytes of the text are kept at most.
-const KEPT: usize = 16_384;
+/// So many bytes of the text are kept at most, however long it is.
+const KEPT: usize = 81_920;
 
 /// So many of them stay where there is no room for more: over a line, which the reader may not have had to its end.
 const STAY: usize = MAX_LINE + 2;
 
-/// So many are taken at once: what stays and they have room.
+/// So many are taken at once: what stays and they have room. No reader here asks for more by one read, so all of that is kept.
 const PIECE: usize = KEPT - STAY;
 
 /// What the lines of a text are.
@@ -34,6 +34,8 @@ pub enum Form {
     Script,
     /// The commands of a script on a disk that is a file.
     ScriptOnFile,
+    /// The position of an order, and then what is asked of a node that follows it: a text without end.
+    Followed,
 }
 
 impl Form {
@@ -41,6 +43,8 @@ impl Form {
     fn kind(self, is_first: bool) -> Kind {
         match self {
             Form::Order | Form::Script if is_first => Kind::Params,
+            Form::Followed if is_first => Kind::Position,
+            Form::Followed => Kind::Asked,
             Form::Order | Form::Batch => Kind::Item,
             Form::Script => Kind::Command,
             Form::ScriptOnFile => Kind::CommandOnFile,
@@ -123,8 +127,31 @@ impl Tail {
         }
     }
 
+    /// Whether the text ends in the middle of its line with this number.
+    fn is_cut_at(&self, number: u64) -> bool {
+        let bytes = self.bytes.as_slice();
+        let feeds = self.lines.saturating_add(feeds_in(bytes));
+        number == feeds.saturating_add(1) && !bytes.is_empty() && bytes.last() != Some(&b'\n')
+    }
+
+    /// The line that is no line, since the text ends in its middle, where it is that which is refused so.
+    fn cut_line(&self, form: Form, refusal: Refusal) -> Option<WrongLine> {
+        match (form, refusal) {
+            (Form::Followed, Refusal::Malformed { at }) if self.is_cut_at(at) => {
+                let wrong = WrongIn::Form(Wrong::with_line(
+                    "the text ends in it, before its line feed",
+                ));
+                Some(WrongLine { number: at, wrong })
+            }
+            _ => None,
+        }
+    }
+
     /// The line of this text that is refused so.
     fn refused_line(&self, form: Form, refusal: Refusal) -> Option<WrongLine> {
+        if let Some(line) = self.cut_line(form, refusal) {
+            return Some(line);
+        }
         let mut number = self.lines;
         let mut has_words = self.has_words;
         let mut is_whole = !self.is_cut;
@@ -157,6 +184,7 @@ fn refusal_of_line(kind: Kind, line: &[u8]) -> Option<Refusal> {
         Kind::Params => read_params_line(line, 0).err(),
         Kind::Item => read_order_line(line, 0).err(),
         Kind::Command | Kind::CommandOnFile => refusal_of_delivery(line),
+        Kind::Position | Kind::Asked => None,
     }
 }
 
@@ -210,9 +238,10 @@ impl<R: Read + Drop> Text<R> {
         if refusal != Refusal::StreamFault {
             return Some(Cause::Line(self.tail.refused_line(form, refusal)?));
         }
-        match self.reader.error() {
-            Some(error) => Some(Cause::System(error)),
-            None => Some(Cause::TOO_LONG),
+        match (self.reader.error(), form) {
+            (Some(error), _) => Some(Cause::System(error)),
+            (None, Form::Followed) => None,
+            (None, _) => Some(Cause::TOO_LONG),
         }
     }
 

@@ -3,7 +3,7 @@
 use crate::limits::Outside;
 use arrayvec::ArrayVec;
 use rep_record::{Words, cut_at};
-use rep_types::read_number;
+use rep_types::{Gtid, read_number};
 
 /// Whether the word has digits alone.
 fn has_only_digits(word: &[u8]) -> bool {
@@ -26,6 +26,15 @@ pub(crate) fn wrong_key(word: &[u8]) -> Option<&'static str> {
         return Some("no key, which is table/row");
     };
     wrong_number(table, u64::from(u8::MAX)).or(wrong_number(row, u64::from(u32::MAX)))
+}
+
+/// What is wrong with the GTID of a position.
+pub(crate) fn wrong_gtid(word: &[u8]) -> Option<&'static str> {
+    match Gtid::parse(word) {
+        Ok(gtid) if gtid.seqno() >= 0 => None,
+        Ok(_) => Some("a GTID of no position"),
+        Err(_) => Some("no GTID, which is uuid:seqno"),
+    }
 }
 
 /// What is wrong with labels.

@@ -1,0 +1,6 @@
+use Rattle.rep_follow.proofs.Committing.{follows_none, follows_ask, follows_both}
+use Rattle.rep_follow.proofs.Joins.{follows_read}
+use Rattle.rep_follow.proofs.laws.parts_are_joined.Goals as goal
+
+pub returns : goal.returns
+returns g c = record { none = follows_none g.D.Disk; asked = follows_ask g.D.Disk c.asks_are_given_up.ensures; read = follows_read g.D.Disk c.runs_are_joined.ensures; both = follows_both g.D.Disk }

@@ -1,0 +1,32 @@
+-- How parts of a life of a node that follows an order are joined.
+use Rattle.std.specs.Prelude.{ℕ, List, [], ◌++◌, Option, Result, Ok}
+use Rattle.rep_types.specs.declared.item.Item.{Item}
+use Rattle.rep_types.specs.declared.key.Key.{Key}
+use Rattle.rep_types.specs.declared.refusal.Refusal.{Refusal}
+use Rattle.rep_types.specs.declared.reply.Reply.{Reply}
+use Rattle.rep_disk.specs.declared.disk.Disk.{Ghosts}
+use Rattle.rep_steps.specs.declared.event.Event.TheVariants.{Read}
+use Rattle.rep_steps.specs.declared.answer.Answer.{Answer}
+use Rattle.rep_replica.specs.Replicas.{Replica}
+use Rattle.rep_replica.specs.Holding.{IsStep}
+use Rattle.rep_replica.specs.Asking.{IsAsked}
+use Rattle.rep_follow.specs.declared.counts.Counts.{Counts}
+use Rattle.rep_follow.specs.Counting.{HasCounters}
+use Rattle.rep_follow.specs.Committing.{Follows, Goes}
+
+-- Where nothing was done, nothing was delivered and no reply given; nor where the device was asked and nothing else was done, or a row was read. And
+-- two parts, the second from where the first led, are one: of the items of both, and the receipts of both.
+pub record PartsAreJoined {D : Type 0} (g : Ghosts D) : Type 0 where
+  pub none : (r : Replica D) → Follows g r r [] []
+  pub asked : (old new : Replica D) → IsAsked g old new → Follows g old new [] []
+  pub read : (old new : Replica D) (key : Key) (position : ℕ) (a : Answer) → IsStep g old (Read key position) a new → Follows g old new [] []
+  pub both : (old mid new : Replica D) (items more : List Item) (first behind : List Reply) → Follows g old mid items first → Follows g mid new more behind → Follows g old new (items ++ more) (first ++ behind)
+
+-- The same of what is told and counted: nothing is, where the device was asked or a row was read.
+pub record GoingIsJoined {D : Type 0} (g : Ghosts D) : Type 0 where
+  pub none : (r : Replica D) (counts : Counts) (text : Option (List ℕ)) → HasCounters counts → Goes g r r [] counts counts text text (Ok tt)
+  pub asked : (old new : Replica D) (counts : Counts) (text : Option (List ℕ)) → HasCounters counts → IsAsked g old new → Goes g old new [] counts counts text text (Ok tt)
+  pub read : (old new : Replica D) (key : Key) (position : ℕ) (a : Answer) (counts : Counts) (text : Option (List ℕ)) → HasCounters counts → IsStep g old (Read key position) a new
+      → Goes g old new [] counts counts text text (Ok tt)
+  pub both : (old mid new : Replica D) (items more : List Item) (was between now : Counts) (before written after : Option (List ℕ)) (result : Result (Unit {0}) Refusal) → Goes g old mid items was between before written (Ok tt)
+      → Goes g mid new more between now written after result → Goes g old new (items ++ more) was now before after result

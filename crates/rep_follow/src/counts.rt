@@ -1,0 +1,130 @@
+//! What a node counts of what it does.
+
+ghost use Rattle.std.specs.Prelude.{◌≡◌, [], ◌∷◌};
+ghost use Rattle.rep_follow.specs.Counting.{is_no_effect, one_where, tally, risen_by, HasCounters};
+
+use rep_record::no_effect;
+use rep_types::{Item, Reply, Verdict};
+
+/// What a node counts of what it does. Each counter stops at 2^64 - 1.
+#[derive(Clone, Copy, Debug, PartialEq, Eq)]
+pub struct Counts {
+    /// The items that were taken.
+    pub items: u64,
+    /// The blocks that became durable.
+    pub blocks: u64,
+    /// The checkpoints that ended.
+    pub checkpoints: u64,
+    /// The receipts that were given whose item took effect.
+    pub commit: u64,
+    /// Those whose item is in conflict.
+    pub conflict: u64,
+    /// Those whose item saw too old a state.
+    pub stale: u64,
+    /// Those whose item claims to have seen what comes later.
+    pub future: u64,
+    /// Those whose item has a key outside the schema.
+    pub badkey: u64,
+    /// The items that were taken and have no effect, as which a text counts that is no item.
+    pub unreadable: u64,
+}
+
+/// Whether it is the item that has no effect.
+fn is_no_effect(item: &Item) -> bool
+    ensures { result ≡ is_no_effect item.now }
+{
+    *item == no_effect()
+}
+
+impl Counts {
+    /// Nothing is counted yet.
+    pub fn new() -> Counts
+        ensures { result ≡ tally [] [] 0 0 }
+    {
+        Counts {
+            items: 0,
+            blocks: 0,
+            checkpoints: 0,
+            commit: 0,
+            conflict: 0,
+            stale: 0,
+            future: 0,
+            badkey: 0,
+            unreadable: 0,
+        }
+    }
+
+    /// Each counter has 64 bits: a law, which does nothing.
+    pub fn limits(self)
+        ensures { HasCounters self }
+    {}
+
+    /// What is counted of an item that was taken.
+    pub(crate) fn of_item(item: &Item) -> Counts
+        ensures { result ≡ tally (item.now ∷ []) [] 0 0 }
+    {
+        Counts {
+            items: 1,
+            unreadable: u64::from(is_no_effect(item)),
+            ..Counts::new()
+        }
+    }
+
+    /// What is counted of a receipt that was given.
+    fn of_receipt(reply: &Reply) -> Counts
+        ensures { result ≡ tally [] (reply.now ∷ []) 0 0 }
+    {
+        let mut counts = Counts::new();
+        match reply.verdict {
+            Verdict::Commit => counts.commit = 1,
+            Verdict::Conflict(_) => counts.conflict = 1,
+            Verdict::Stale => counts.stale = 1,
+            Verdict::Future => counts.future = 1,
+            Verdict::BadKey => counts.badkey = 1,
+        }
+        counts
+    }
+
+    /// What is counted of a block that became durable, or of none, and of a checkpoint that ended, or of none; its receipts aside.
+    fn of_block(durable: bool, ended: bool) -> Counts
+        ensures { result ≡ tally [] [] (one_where durable) (one_where ended) }
+    {
+        Counts {
+            blocks: u64::from(durable),
+            checkpoints: u64::from(ended),
+            ..Counts::new()
+        }
+    }
+
+    /// Lets each counter rise.
+    pub(crate) fn rise(&mut self, more: &Counts)
+        ensures { self.new ≡ risen_by self.old more.now }
+    {
+        self.items = self.items.saturating_add(more.items);
+        self.blocks = self.blocks.saturating_add(more.blocks);
+        self.checkpoints = self.checkpoints.saturating_add(more.checkpoints);
+        self.commit = self.commit.saturating_add(more.commit);
+        self.conflict = self.conflict.saturating_add(more.conflict);
+        self.stale = self.stale.saturating_add(more.stale);
+        self.future = self.future.saturating_add(more.future);
+        self.badkey = self.badkey.saturating_add(more.badkey);
+        self.unreadable = self.unreadable.saturating_add(more.unreadable);
+    }
+
+    /// Counts a checkpoint, where one ended.
+    pub(crate) fn count_checkpoint(&mut self, ended: bool)
+        ensures { self.new ≡ risen_by self.old (tally [] [] 0 (one_where ended)) }
+    {
+        self.rise(&Counts::of_block(false, ended));
+    }
+
+    /// Counts a block with its receipts, and a checkpoint, where one ended beside it.
+    pub(crate) fn count_block(&mut self, replies: &[Reply], ended: bool)
+        ensures { self.new ≡ risen_by self.old (tally [] replies.now 1 (one_where ended)) }
+    {
+        self.rise(&Counts::of_block(true, ended));
+        for reply in replies {
+            self.rise(&Counts::of_receipt(reply));
+        }
+    }
+}

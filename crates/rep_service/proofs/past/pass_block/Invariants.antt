@@ -1,0 +1,17 @@
+use Rattle.std.proofs.Common.{◌≡◌, [], length}
+use Rattle.rep_replica.specs.Replicas.{facts_of}
+use Rattle.rep_lines.specs.Feeds.{ahead}
+use Rattle.rep_service.proofs.Records.{RecordsSo}
+use Rattle.rep_service.proofs.past.pass_block.Given as goal
+
+-- all that was delivered is durable, and no stream has failed
+abbrev pub invariant-records : goal.invariant-records
+invariant-records g l = record {
+  passes : RecordsSo l.fn.block.records l.block.records l.fn.position (ahead l.fn.input.feed (g.R.Source.remaining l.fn.source)) (ahead l.input.feed (g.R.Source.remaining l.source)) l.position;
+  told : (facts_of g.D.Disk l.replica).ahead ≡ [];
+  source : g.R.Source.failed l.source ≡ g.R.Source.failed l.fn.source;
+  writer : g.W.Sink.failed l.writer ≡ g.W.Sink.failed l.fn.writer;
+}
+
+abbrev pub decreases-records : goal.decreases-records
+decreases-records g l = length l.block.records

@@ -1,0 +1,33 @@
+use Rattle.std.proofs.Common.{◌+◌, ◌∙◌, refl}
+use Rattle.rep_lines.specs.Feeds.{ahead}
+use Rattle.rep_streams.proofs.Noted.{noted_ok}
+use Rattle.rep_follow.proofs.Noting.{source_kept, writer_kept}
+use Rattle.rep_service.proofs.Reaching.{passes_item, passes_end}
+use Rattle.rep_service.proofs.Records.{old_none, old_more, old_end}
+use Rattle.rep_service.proofs.past.pass_old.Goals as goal
+
+pub old-init : goal.old-init
+old-init g c = record { passes = old_none c.base-base.result c.args.position.now (ahead c.args.input.now.feed (g.R.Source.remaining c.args.source.now)); told = c.requires; source = refl; writer = refl }
+
+pub returns-in-Ok-None-clause-passes : goal.returns-in-Ok-None-clause-passes
+returns-in-Ok-None-clause-passes g c =
+    let rest = g.R.Source.remaining in
+    let mid = ahead c.old.input.feed (rest c.old.source) in
+    let behind = ahead c.next_item.new.input.feed (rest c.next_item.new.source) in
+    let reached = rw c.in-Ok-None.field-0-is at c.in-Ok-None.ensures.reaches in
+    let ended = old_end c.base-base.result c.args.position.now (ahead c.args.input.now.feed (rest c.args.source.now)) mid behind c.old.position c.old.invariant.passes (passes_end c.old.position c.next_item.new.input.feed (rest c.next_item.new.source) mid behind reached) in
+    rw c.base-base.ensures at ended
+
+pub old-preserved : goal.old-preserved
+old-preserved g c =
+    let rest = g.R.Source.remaining in
+    let mid = ahead c.old.input.feed (rest c.old.source) in
+    let behind = ahead c.next_item.new.input.feed (rest c.next_item.new.source) in
+    let reached = rw c.in-Ok-Some.field-0-is at c.in-Ok-Some.ensures.reaches in
+    record {
+      passes = old_more c.base-base.result c.args.position.now (ahead c.args.input.now.feed (rest c.args.source.now)) mid behind c.in-Ok-Some.field-0-0 c.old.position (c.old.position + 1) c.old.invariant.passes
+          (passes_item c.old.position c.next_item.new.input.feed (rest c.next_item.new.source) mid behind c.in-Ok-Some.field-0-0 (c.old.position + 1) reached refl);
+      told = c.in-Ok-Some.ensures.ahead;
+      source = source_kept (g.R.Source.failed c.old.source) (g.R.Source.failed c.next_item.new.source) (g.W.Sink.failed c.old.writer) (g.W.Sink.failed c.next_item.new.writer) c.in-Ok-Some.field-0 c.in-Ok-Some.ensures.notes ∙ c.old.invariant.source;
+      writer = noted_ok _ _ _ c.in_default.ensures.notes ∙ writer_kept (g.R.Source.failed c.old.source) (g.R.Source.failed c.next_item.new.source) (g.W.Sink.failed c.old.writer) (g.W.Sink.failed c.next_item.new.writer) c.in-Ok-Some.field-0 c.in-Ok-Some.ensures.notes ∙ c.old.invariant.writer;
+    }

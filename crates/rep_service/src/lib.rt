@@ -1,0 +1,23 @@
+//! The service of a node that follows an order: its first line, the items that are durable already, and then the items as they come and the
+//! commands between them, each answered by a line at what is durable.
+#![tactic(auto)]
+
+mod commands;
+mod counters;
+mod donating;
+mod durable;
+mod exchange;
+mod first;
+mod input;
+mod line;
+mod opening;
+mod past;
+mod rows;
+mod same;
+mod service;
+
+pub use exchange::Exchange;
+pub use service::follow_on_disk;
+
+#[cfg(test)]
+mod tests;

@@ -1,0 +1,267 @@
+//! A node that follows an order, from its first line to the end of the text.
+
+ghost use Rattle.std.specs.Prelude.{◌≡◌, true, false, [], Ok, Err, IfErr, OnOk};
+ghost use Rattle.rep_streams.specs.Streams.{Notes};
+ghost use Rattle.rep_replica.specs.Replicas.{facts_of};
+ghost use Rattle.rep_replica.specs.Settling.{is_quiet};
+ghost use Rattle.rep_follow.specs.Following.{NotesEither};
+ghost use Rattle.rep_service.specs.Inputs.{counted};
+ghost use Rattle.rep_service.specs.Serving.{is_of_line, EndsText, EndsOnDisk};
+
+use crate::commands::answer;
+use crate::exchange::Exchange;
+use crate::input::Input;
+use crate::opening::open_order;
+use crate::past::pass_durable;
+use rep_disk::Disk;
+use rep_follow::{Counts, End, commit, finish, follow_items, take};
+use rep_replica::Replica;
+use rep_requests::read_request;
+use rep_script::write_state;
+use rep_streams::{Sink, Source};
+use rep_types::Refusal;
+use std::alloc::Global;
+
+/// Follows the items that come, and answers the line at which they end, which is a command or an item without a number. Answers `false` where the
+/// text ends.
+fn follow_lines<D: Disk, R: Source, W: Sink, E: Exchange>(
+    alloc: Global,
+    replica: &mut Replica<D>,
+    exchange: &mut E,
+    counts: &mut Counts,
+    input: &mut Input,
+    next: &mut u64,
+    source: &mut R,
+    writer: &mut W,
+) -> Result<bool, Refusal>
+    // At the end of the text all that was delivered is durable.
+    ensures told { result ≡ Ok false → (facts_of D.Disk replica.new).ahead ≡ [] }
+    // A stream fault is one of the streams.
+    ensures notes { NotesEither (R.failed source.old) (R.failed source.new) (W.failed writer.old) (W.failed writer.new) result }
+{
+    let first = *next;
+    let ended = follow_items(
+        replica,
+        counts,
+        &mut input.feed,
+        next,
+        &mut input.line,
+        source,
+        writer,
+    );
+    input.count(next.saturating_sub(first));
+    match ended {
+        Ok(End::Line) => {}
+        Ok(End::Text) => return Ok(false),
+        Err(refusal) => return Err(refusal),
+    }
+    input.count(1);
+    let request = read_request(input.line.as_slice(), input.number);
+    let seqno = *next;
+    match answer(
+        alloc,
+        replica,
+        exchange,
+        counts,
+        request,
+        input.number,
+        seqno,
+        writer,
+    ) {
+        Ok(None) => return Ok(true),
+        Ok(Some(item)) => {
+            if let Err(refusal) = take(replica, counts, writer, seqno, item) {
+                return Err(refusal);
+            }
+        }
+        Err(refusal) => return Err(refusal),
+    }
+    *next = seqno.saturating_add(1);
+    Ok(true)
+}
+
+/// Whether the refusal is one of a line, behind what came before it: that is made durable and told first.
+fn is_of_line(refusal: Refusal) -> bool
+    ensures { result ≡ is_of_line refusal }
+{
+    matches!(
+        refusal,
+        Refusal::OutOfOrder { .. } | Refusal::Malformed { .. } | Refusal::Exhausted
+    )
+}
+
+/// Follows the lines up to the end of the text.
+fn follow_text<D: Disk, R: Source, W: Sink, E: Exchange>(
+    alloc: Global,
+    replica: &mut Replica<D>,
+    exchange: &mut E,
+    counts: &mut Counts,
+    input: &mut Input,
+    next: &mut u64,
+    source: &mut R,
+    writer: &mut W,
+) -> Result<(), Refusal>
+    ensures told { OnOk result ((facts_of D.Disk replica.new).ahead ≡ []) }
+    ensures notes { NotesEither (R.failed source.old) (R.failed source.new) (W.failed writer.old) (W.failed writer.new) result }
+{
+    for _ in 0..u64::MAX {
+        match follow_lines(
+            alloc, replica, exchange, counts, input, next, source, writer,
+        ) {
+            Ok(true) => {}
+            Ok(false) => return Ok(()),
+            Err(refusal) => return Err(refusal),
+        }
+    }
+    Err(Refusal::Exhausted)
+}
+
+/// Ends a node whose text has ended: where bytes without a line feed are left, they are no line; else the checkpoint under way is ended, and the line
+/// of the state is written.
+///
+/// Refuses with `Malformed`, at the number that the line would have, where it is cut; as `finish` does; with `OutOfMemory` where there is no
+/// memory for the window; and with `StreamFault` a writer that fails, which it notes.
+fn end_text<D: Disk, W: Sink>(
+    alloc: Global,
+    replica: &mut Replica<D>,
+    counts: &mut Counts,
+    input: &Input,
+    writer: &mut W,
+) -> Result<(), Refusal>
+    ensures ends { EndsText D.Disk input.now.feed (counted input.now.number 1) replica.old replica.new (W.contents writer.old) (W.contents writer.new) result }
+    ensures line { IfErr result (λ e. is_of_line e ≡ true → replica.new ≡ replica.old) }
+    ensures notes { Notes (W.failed writer.old) (W.failed writer.new) result }
+{
+    if !input.feed.is_empty() {
+        return Err(Refusal::Malformed {
+            at: input.next_number(),
+        });
+    }
+    if let Err(refusal) = finish(replica, counts, writer) {
+        return Err(refusal);
+    }
+    match replica.window(alloc) {
+        Ok(window) => write_state(writer, replica, window.entries()),
+        Err(refusal) => Err(refusal),
+    }
+}
+
+/// Follows the order behind its first line, up to the end of the text.
+fn follow_order<D: Disk, R: Source, W: Sink, E: Exchange>(
+    alloc: Global,
+    replica: &mut Replica<D>,
+    exchange: &mut E,
+    counts: &mut Counts,
+    input: &mut Input,
+    mut position: u64,
+    source: &mut R,
+    writer: &mut W,
+) -> Result<(), Refusal>
+    requires { (facts_of D.Disk replica.old).ahead ≡ [] }
+    ensures told { OnOk result ((facts_of D.Disk replica.new).ahead ≡ []) }
+    ensures notes { NotesEither (R.failed source.old) (R.failed source.new) (W.failed writer.old) (W.failed writer.new) result }
+{
+    match pass_durable(
+        alloc,
+        replica,
+        exchange,
+        counts,
+        input,
+        &mut position,
+        source,
+        writer,
+    ) {
+        Ok(true) => {}
+        Ok(false) => return Ok(()),
+        Err(refusal) => return Err(refusal),
+    }
+    let mut next = position.saturating_add(1);
+    follow_text(
+        alloc, replica, exchange, counts, input, &mut next, source, writer,
+    )
+}
+
+/// Why the node ends, where following the order was refused so: what came before a line that ends it is made durable and told first, and may be refused.
+fn end_behind<D: Disk, W: Sink>(
+    replica: &mut Replica<D>,
+    counts: &mut Counts,
+    refusal: Refusal,
+    writer: &mut W,
+) -> Refusal
+    ensures told { is_of_line refusal ≡ true → is_of_line result ≡ true → (facts_of D.Disk replica.new).ahead ≡ [] }
+    ensures line { is_of_line refusal ≡ true → Notes {T = Unit {0}} (W.failed writer.old) (W.failed writer.new) (Err result) }
+    ensures other { is_of_line refusal ≡ false → (result ≡ refusal) × (replica.new ≡ replica.old) × (writer.new ≡ writer.old) }
+{
+    if !is_of_line(refusal) {
+        return refusal;
+    }
+    match commit(replica, counts, writer) {
+        Ok(()) => refusal,
+        Err(refusal) => refusal,
+    }
+}
+
+/// Follows an order by this replica, from the first line of the text to its end.
+fn follow<D: Disk, R: Source, W: Sink, E: Exchange>(
+    alloc: Global,
+    replica: &mut Replica<D>,
+    source: &mut R,
+    writer: &mut W,
+    exchange: &mut E,
+) -> Result<(), Refusal>
+    requires { (facts_of D.Disk replica.old).ahead ≡ [] }
+    ensures quiet { OnOk result (is_quiet (facts_of D.Disk replica.new) ≡ true) }
+    // Where it ends at a line, all that came before is durable.
+    ensures told { IfErr result (λ e. is_of_line e ≡ true → (facts_of D.Disk replica.new).ahead ≡ []) }
+    ensures notes { NotesEither (R.failed source.old) (R.failed source.new) (W.failed writer.old) (W.failed writer.new) result }
+{
+    let mut input = Input::new();
+    let mut counts = Counts::new();
+    let position = match open_order(replica, &mut input, source, writer) {
+        Ok(position) => position,
+        Err(refusal) => return Err(refusal),
+    };
+    match follow_order(
+        alloc,
+        replica,
+        exchange,
+        &mut counts,
+        &mut input,
+        position,
+        source,
+        writer,
+    ) {
+        Ok(()) => end_text(alloc, replica, &mut counts, &input, writer),
+        Err(refusal) => Err(end_behind(replica, &mut counts, refusal, writer)),
+    }
+}
+
+/// Follows an order by the node on this disk, which is opened first, as long as the text goes on: the lines of the text are items of the
+/// order, which are made durable and answered, and commands, which are answered at what is durable. The disk comes back beside the answer.
+///
+/// Refuses the disk as `Replica::open` does, before the first line is read; a text without words with `Malformed`, at one more than its lines, and another
+/// first line than that of an order, at its number; a node of no cluster with `Undefined`, the order of another cluster with `WrongCluster`, and a position
+/// above what is durable with `OutOfOrder`; an item whose number is not the next with `OutOfOrder`, and one whose number is not of its form with `Malformed`,
+/// at the line's number; an item that is durable already and is not that of the log with `WrongCluster`; a last line without a line feed with
+/// `Malformed`, at the number that it would have. What came before any of these is durable then, and told. And with `OutOfMemory`, `DiskFault`, and
+/// `Corrupt` as a block, a checkpoint and the log are; with `Exhausted` where no seqno is left; and with `StreamFault` where a stream fails, which it
+/// notes.
+pub fn follow_on_disk<D: Disk, R: Source, W: Sink, E: Exchange>(
+    alloc: Global,
+    disk: D,
+    source: &mut R,
+    writer: &mut W,
+    exchange: &mut E,
+) -> (D, Result<(), Refusal>)
+    ensures ends { EndsOnDisk D.Disk disk result.0 (W.contents writer.old) (W.contents writer.new) result.1 }
+    // A stream fault is one of the streams.
+    ensures notes { NotesEither (R.failed source.old) (R.failed source.new) (W.failed writer.old) (W.failed writer.new) result.1 }
+{
+    match Replica::open(alloc, disk) {
+        Ok(mut replica) => {
+            let outcome = follow(alloc, &mut replica, source, writer, exchange);
+            (replica.into_disk(), outcome)
+        }
+        Err((disk, refusal)) => (disk, Err(refusal)),
+    }
+}
