@@ -6,3 +6,8 @@ pub mod Noting
 pub mod Ending
 pub mod Reaching
 pub mod Records
+pub mod Lives
+pub mod Items
+pub mod Following
+pub mod Passed
+pub mod Orders

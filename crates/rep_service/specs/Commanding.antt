@@ -1,5 +1,5 @@
 -- What a node does at a line that asks for something, and what it writes of it.
-use Rattle.std.specs.Prelude.{◌≡◌, ◌⊎◌, ℕ, ◌==◌, if◌then◌else◌, List, Option, None, Some, Result, Ok, Err, IfErr, MatchResult}
+use Rattle.std.specs.Prelude.{◌≡◌, ◌≢◌, ◌⊎◌, ℕ, ◌==◌, if◌then◌else◌, List, Option, None, Some, Result, Ok, Err, IfErr, MatchResult}
 use Rattle.std.specs.Io.KnownBytes.{Keeps}
 use Rattle.rep_types.specs.declared.key.Key.{Key}
 use Rattle.rep_types.specs.declared.item.Item.{Item}
@@ -9,6 +9,7 @@ use Rattle.rep_disk.specs.declared.disk.Disk.{Ghosts}
 use Rattle.rep_requests.specs.Requests.{Requested, Nothing, Published, Stated, Read, Sum, State, Limits, Counters, Donate, Refused, Broken}
 use Rattle.rep_replica.specs.Replicas.{Replica, facts_of}
 use Rattle.rep_replica.specs.Settling.{EndsEarly}
+use Rattle.rep_replica.specs.Asking.{IsAsked}
 use Rattle.rep_sum.specs.declared.sum.Sum.{Sum as SumOf}
 use Rattle.rep_sum.specs.Sums.{RowRead, IsSumAt}
 use Rattle.rep_script.specs.Answering.{Tells}
@@ -67,9 +68,11 @@ TellsDonated (Ok last) before after result = Tells (donated_line last) before af
 TellsDonated (Err e) before after result = Refuses e before after result
 
 -- What comes of a transfer behind what was made durable: where that was refused, nothing more; else the device was read alone, and the transfer told.
+-- Unless the device failed, it was asked, and nothing else was done.
 abbrev pub TellsTransfer : {D : Type 0} → Ghosts D → Replica D → Replica D → Result (Unit {0}) Refusal → Option (List ℕ) → Option (List ℕ) → Result (Unit {0}) Refusal → Type 0
 TellsTransfer g mid new (Err e) between after result = (result ≡ Err e) × (new ≡ mid) × (after ≡ between)
-TellsTransfer g mid new (Ok x) between after result = ReadsAlone g mid new × ((donated : Result ℕ Refusal) × TellsDonated donated between after result)
+TellsTransfer g mid new (Ok x) between after result =
+    ReadsAlone g mid new × ((donated : Result ℕ Refusal) × (donated ≢ Err DiskFault → IsAsked g mid new) × TellsDonated donated between after result)
 
 -- All that was delivered was made durable and told, and then a transfer was written, or refused, and told.
 pub record TellsDonation {D : Type 0} (g : Ghosts D) (old new : Replica D) (was now : Counts) (before after : Option (List ℕ)) (result : Result (Unit {0}) Refusal) : Type 0 where

@@ -5,4 +5,5 @@ pub mod Rows
 pub mod Opening
 pub mod Passing
 pub mod Commanding
+pub mod Living
 pub mod Serving

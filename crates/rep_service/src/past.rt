@@ -1,17 +1,19 @@
 //! Items of the order that are durable already.
 
-ghost use Rattle.std.specs.Prelude.{◌≡◌, ◌<◌, ◌+◌, ◌-◌, ◌^◌, true, false, [], ◌∷◌, IfOk, OnOk};
+ghost use Rattle.std.specs.Prelude.{◌≡◌, ◌<◌, ◌≤◌, ◌+◌, ◌-◌, ◌^◌, true, false, [], ◌∷◌, Ok, IfOk, OnOk};
 ghost use Rattle.rep_lines.specs.Feeds.{ahead};
 ghost use Rattle.rep_replica.specs.Replicas.{facts_of};
 ghost use Rattle.rep_follow.specs.Following.{NotesEither};
+ghost use Rattle.rep_service.specs.Commanding.{done_of};
 ghost use Rattle.rep_service.specs.Passing.{Reaches, Passes, PassesOld, PassesRecords};
+ghost use Rattle.rep_service.specs.Living.{HandsLines, PassesLines};
 
 use crate::commands::answer;
 use crate::durable::{answer_durable, write_old};
 use crate::exchange::Exchange;
 use crate::input::Input;
 use rep_disk::Disk;
-use rep_follow::Counts;
+use rep_follow::{Counts, going_is_joined, parts_are_joined};
 use rep_layout::LOG_BODY;
 use rep_record::BlockReader;
 use rep_replica::Replica;
@@ -37,10 +39,13 @@ fn next_item<D: Disk, R: Source, W: Sink, E: Exchange>(
     requires seqno { position < 2 ^ 64 - 1 }
     ensures reaches { IfOk result (Reaches (position + 1) input.new.feed (R.remaining source.new) (ahead input.old.feed (R.remaining source.old)) (ahead input.new.feed (R.remaining source.new))) }
     // Nothing is delivered.
+    ensures lives { HandsLines D.Disk replica.old replica.new (ahead input.old.feed (R.remaining source.old)) (ahead input.new.feed (R.remaining source.new)) (done_of result) }
     ensures ahead { OnOk result ((facts_of D.Disk replica.new).ahead ≡ []) }
     // A stream fault is one of the streams.
     ensures notes { NotesEither (R.failed source.old) (R.failed source.new) (W.failed writer.old) (W.failed writer.new) result }
 {
+    parts_are_joined::<D>();
+    going_is_joined::<D>();
     for _ in 0..u64::MAX {
         match input.next_line(replica, source) {
             Ok(true) => {}
@@ -80,13 +85,17 @@ fn pass_old<D: Disk, R: Source, W: Sink, E: Exchange>(
     source: &mut R,
     writer: &mut W,
 ) -> Result<bool, Refusal>
-    requires { (facts_of D.Disk replica.old).ahead ≡ [] }
+    requires told { (facts_of D.Disk replica.old).ahead ≡ [] }
+    requires based { replica.old.engine.checkpoint.base.position ≤ (facts_of D.Disk replica.old).durable }
     ensures passes { IfOk result (λ done. PassesOld replica.old.engine.checkpoint.base.position position.old (ahead input.old.feed (R.remaining source.old)) (ahead input.new.feed (R.remaining source.new)) done position.new) }
-    // Nothing is delivered.
+    // Nothing is delivered, and the position rises by one for each item of the lines, up to what is durable at most.
+    ensures lives { PassesLines D.Disk position.old replica.old replica.new (ahead input.old.feed (R.remaining source.old)) (ahead input.new.feed (R.remaining source.new)) position.new (done_of result) }
+    ensures within { position.old ≤ (facts_of D.Disk replica.old).durable → OnOk result (position.new ≤ (facts_of D.Disk replica.old).durable) }
     ensures ahead { OnOk result ((facts_of D.Disk replica.new).ahead ≡ []) }
     // A stream fault is one of the streams.
     ensures notes { NotesEither (R.failed source.old) (R.failed source.new) (W.failed writer.old) (W.failed writer.new) result }
 {
+    parts_are_joined::<D>();
     let base = replica.base();
     'old: while *position < base {
         match next_item(
@@ -108,7 +117,8 @@ fn pass_old<D: Disk, R: Source, W: Sink, E: Exchange>(
 /// Passes over the item of this record, which is above the position: the text's next item is compared with it. Answers `false` where the text ends
 /// before.
 ///
-/// Refuses as `next_item` and `answer_durable` do, and with `Corrupt` of the log a record that is not the next one: an honest device shows none.
+/// Refuses as `next_item` and `answer_durable` do, and with `Corrupt` of the log a record that is not the next one, or is above what is durable: an
+/// honest device shows none.
 fn pass_record<D: Disk, R: Source, W: Sink, E: Exchange>(
     alloc: Global,
     replica: &mut Replica<D>,
@@ -125,12 +135,15 @@ fn pass_record<D: Disk, R: Source, W: Sink, E: Exchange>(
     // What was passed over is the record's item.
     ensures passes { IfOk result (λ done. done ≡ true → Passes position.old (ahead input.old.feed (R.remaining source.old)) (ahead input.new.feed (R.remaining source.new)) (judged.now.item ∷ []) position.new × (position.new ≡ judged.now.seqno)) }
     ensures ended { IfOk result (λ done. done ≡ false → Passes position.old (ahead input.old.feed (R.remaining source.old)) (ahead input.new.feed (R.remaining source.new)) [] position.new × (position.new ≡ position.old)) }
+    ensures lives { PassesLines D.Disk position.old replica.old replica.new (ahead input.old.feed (R.remaining source.old)) (ahead input.new.feed (R.remaining source.new)) position.new (done_of result) }
+    ensures within { position.old ≤ (facts_of D.Disk replica.old).durable → OnOk result (position.new ≤ (facts_of D.Disk replica.old).durable) }
     ensures ahead { OnOk result ((facts_of D.Disk replica.new).ahead ≡ []) }
     ensures notes { NotesEither (R.failed source.old) (R.failed source.new) (W.failed writer.old) (W.failed writer.new) result }
 {
+    parts_are_joined::<D>();
     let found = judged.seqno;
     let seqno = *position + 1;
-    if found != seqno {
+    if found != seqno || found > replica.durable() {
         return Err(Refusal::Corrupt { part: Part::Log });
     }
     let item = match next_item(
@@ -163,11 +176,14 @@ fn pass_block<D: Disk, R: Source, W: Sink, E: Exchange>(
 ) -> Result<bool, Refusal>
     requires { (facts_of D.Disk replica.old).ahead ≡ [] }
     ensures passes { IfOk result (λ done. PassesRecords block.entry.records position.old (ahead input.old.feed (R.remaining source.old)) (ahead input.new.feed (R.remaining source.new)) done position.new) }
-    // Nothing is delivered.
+    // Nothing is delivered, and the position rises by one for each item of the lines, up to what is durable at most.
+    ensures lives { PassesLines D.Disk position.old replica.old replica.new (ahead input.old.feed (R.remaining source.old)) (ahead input.new.feed (R.remaining source.new)) position.new (done_of result) }
+    ensures within { position.old ≤ (facts_of D.Disk replica.old).durable → OnOk result (position.new ≤ (facts_of D.Disk replica.old).durable) }
     ensures ahead { OnOk result ((facts_of D.Disk replica.new).ahead ≡ []) }
     // A stream fault is one of the streams.
     ensures notes { NotesEither (R.failed source.old) (R.failed source.new) (W.failed writer.old) (W.failed writer.new) result }
 {
+    parts_are_joined::<D>();
     'records: while let Some(judged) = block.next_record() {
         if judged.seqno > *position {
             match pass_record(
@@ -196,11 +212,17 @@ fn pass_blocks<D: Disk, R: Source, W: Sink, E: Exchange>(
     writer: &mut W,
 ) -> Result<bool, Refusal>
     requires { (facts_of D.Disk replica.old).ahead ≡ [] }
-    // Nothing is delivered.
+    // Nothing is delivered, and the position rises by one for each item of the lines, up to what is durable at most.
+    ensures lives { PassesLines D.Disk position.old replica.old replica.new (ahead input.old.feed (R.remaining source.old)) (ahead input.new.feed (R.remaining source.new)) position.new (done_of result) }
+    ensures within { position.old ≤ (facts_of D.Disk replica.old).durable → OnOk result (position.new ≤ (facts_of D.Disk replica.old).durable) }
+    // Where it goes on, all that is durable was passed over.
+    ensures all { position.old ≤ (facts_of D.Disk replica.old).durable → result ≡ Ok true → position.new ≡ (facts_of D.Disk replica.old).durable }
     ensures ahead { OnOk result ((facts_of D.Disk replica.new).ahead ≡ []) }
     // A stream fault is one of the streams.
     ensures notes { NotesEither (R.failed source.old) (R.failed source.new) (W.failed writer.old) (W.failed writer.new) result }
 {
+    parts_are_joined::<D>();
+    going_is_joined::<D>();
     let durable = replica.durable();
     let mut room = [0; LOG_BODY];
     for index in 0..u64::MAX {
@@ -237,12 +259,19 @@ pub(crate) fn pass_durable<D: Disk, R: Source, W: Sink, E: Exchange>(
     source: &mut R,
     writer: &mut W,
 ) -> Result<bool, Refusal>
-    requires { (facts_of D.Disk replica.old).ahead ≡ [] }
-    // Nothing is delivered.
+    requires told { (facts_of D.Disk replica.old).ahead ≡ [] }
+    requires based { replica.old.engine.checkpoint.base.position ≤ (facts_of D.Disk replica.old).durable }
+    requires within { position.old ≤ (facts_of D.Disk replica.old).durable }
+    // Nothing is delivered, and the position rises by one for each item of the lines, up to what is durable at most.
+    ensures lives { PassesLines D.Disk position.old replica.old replica.new (ahead input.old.feed (R.remaining source.old)) (ahead input.new.feed (R.remaining source.new)) position.new (done_of result) }
+    ensures within { OnOk result (position.new ≤ (facts_of D.Disk replica.old).durable) }
+    // Where it goes on, all that is durable was passed over.
+    ensures all { result ≡ Ok true → position.new ≡ (facts_of D.Disk replica.old).durable }
     ensures ahead { OnOk result ((facts_of D.Disk replica.new).ahead ≡ []) }
     // A stream fault is one of the streams.
     ensures notes { NotesEither (R.failed source.old) (R.failed source.new) (W.failed writer.old) (W.failed writer.new) result }
 {
+    parts_are_joined::<D>();
     match pass_old(
         alloc, replica, exchange, counts, input, position, source, writer,
     ) {

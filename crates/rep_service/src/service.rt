@@ -1,10 +1,16 @@
 //! A node that follows an order, from its first line to the end of the text.
 
-ghost use Rattle.std.specs.Prelude.{◌≡◌, true, false, [], Ok, Err, IfErr, OnOk};
+ghost use Rattle.std.specs.Prelude.{◌≡◌, ◌+◌, ◌≤◌, true, false, [], ◌∷◌, List, Ok, Err, IfErr, OnOk};
+ghost use Rattle.rep_types.specs.declared.reply.Reply.{Reply};
 ghost use Rattle.rep_streams.specs.Streams.{Notes};
+ghost use Rattle.rep_log.specs.declared.phase.Phase.TheVariants.{Resting};
+ghost use Rattle.rep_lines.specs.Feeds.{ahead};
 ghost use Rattle.rep_replica.specs.Replicas.{facts_of};
 ghost use Rattle.rep_replica.specs.Settling.{is_quiet};
 ghost use Rattle.rep_follow.specs.Following.{NotesEither};
+ghost use Rattle.rep_follow.specs.Taking.{taken_by};
+ghost use Rattle.rep_service.specs.Commanding.{done_of};
+ghost use Rattle.rep_service.specs.Living.{Lives, TakesItems, FollowsLines, FollowsOrder, FollowsText};
 ghost use Rattle.rep_service.specs.Inputs.{counted};
 ghost use Rattle.rep_service.specs.Serving.{is_of_line, EndsText, EndsOnDisk};
 
@@ -14,13 +20,76 @@ use crate::input::Input;
 use crate::opening::open_order;
 use crate::past::pass_durable;
 use rep_disk::Disk;
-use rep_follow::{Counts, End, commit, finish, follow_items, take};
+use rep_follow::{
+    Counts, End, commit, finish, follow_items, going_is_joined, parts_are_joined, take,
+};
 use rep_replica::Replica;
 use rep_requests::read_request;
 use rep_script::write_state;
 use rep_streams::{Sink, Source};
-use rep_types::Refusal;
+use rep_types::{Item, Refusal};
 use std::alloc::Global;
+
+/// Takes the item that a line states without a number, as the next one of the order.
+///
+/// Refuses as `take` does, and with `Exhausted` where no number of 64 bits is left behind its seqno.
+fn take_stated<D: Disk, W: Sink>(
+    replica: &mut Replica<D>,
+    counts: &mut Counts,
+    writer: &mut W,
+    next: &mut u64,
+    item: Item,
+) -> Result<(), Refusal>
+    ensures lives { (receipts : List Reply) × Lives D.Disk replica.old replica.new (taken_by item result) receipts result }
+    ensures next { OnOk result (next.new ≡ next.old + 1) }
+    ensures notes { Notes (W.failed writer.old) (W.failed writer.new) result }
+{
+    parts_are_joined::<D>();
+    let seqno = *next;
+    let Some(after) = seqno.checked_add(1) else {
+        return Err(Refusal::Exhausted);
+    };
+    if let Err(refusal) = take(replica, counts, writer, seqno, item) {
+        return Err(refusal);
+    }
+    *next = after;
+    Ok(())
+}
+
+/// Answers the line that was handed out last where it is a command, and takes the item where it states one.
+///
+/// Refuses as `answer` does, and as `take_stated` does.
+fn follow_line<D: Disk, W: Sink, E: Exchange>(
+    alloc: Global,
+    replica: &mut Replica<D>,
+    exchange: &mut E,
+    counts: &mut Counts,
+    input: &Input,
+    next: &mut u64,
+    writer: &mut W,
+) -> Result<(), Refusal>
+    ensures takes { TakesItems D.Disk next.old (input.now.line.items ∷ []) replica.old replica.new next.new result }
+    ensures notes { Notes (W.failed writer.old) (W.failed writer.new) result }
+{
+    parts_are_joined::<D>();
+    going_is_joined::<D>();
+    let request = read_request(input.line.as_slice(), input.number);
+    let seqno = *next;
+    match answer(
+        alloc,
+        replica,
+        exchange,
+        counts,
+        request,
+        input.number,
+        seqno,
+        writer,
+    ) {
+        Ok(None) => Ok(()),
+        Ok(Some(item)) => take_stated(replica, counts, writer, next, item),
+        Err(refusal) => Err(refusal),
+    }
+}
 
 /// Follows the items that come, and answers the line at which they end, which is a command or an item without a number. Answers `false` where the
 /// text ends.
@@ -36,9 +105,12 @@ fn follow_lines<D: Disk, R: Source, W: Sink, E: Exchange>(
 ) -> Result<bool, Refusal>
     // At the end of the text all that was delivered is durable.
     ensures told { result ≡ Ok false → (facts_of D.Disk replica.new).ahead ≡ [] }
+    // What was delivered are the items of the lines that were handed out.
+    ensures lives { FollowsLines D.Disk next.old replica.old replica.new (ahead input.old.feed (R.remaining source.old)) (ahead input.new.feed (R.remaining source.new)) next.new (done_of result) }
     // A stream fault is one of the streams.
     ensures notes { NotesEither (R.failed source.old) (R.failed source.new) (W.failed writer.old) (W.failed writer.new) result }
 {
+    parts_are_joined::<D>();
     let first = *next;
     let ended = follow_items(
         replica,
@@ -56,28 +128,10 @@ fn follow_lines<D: Disk, R: Source, W: Sink, E: Exchange>(
         Err(refusal) => return Err(refusal),
     }
     input.count(1);
-    let request = read_request(input.line.as_slice(), input.number);
-    let seqno = *next;
-    match answer(
-        alloc,
-        replica,
-        exchange,
-        counts,
-        request,
-        input.number,
-        seqno,
-        writer,
-    ) {
-        Ok(None) => return Ok(true),
-        Ok(Some(item)) => {
-            if let Err(refusal) = take(replica, counts, writer, seqno, item) {
-                return Err(refusal);
-            }
-        }
-        Err(refusal) => return Err(refusal),
+    match follow_line(alloc, replica, exchange, counts, input, next, writer) {
+        Ok(()) => Ok(true),
+        Err(refusal) => Err(refusal),
     }
-    *next = seqno.saturating_add(1);
-    Ok(true)
 }
 
 /// Whether the refusal is one of a line, behind what came before it: that is made durable and told first.
@@ -102,8 +156,11 @@ fn follow_text<D: Disk, R: Source, W: Sink, E: Exchange>(
     writer: &mut W,
 ) -> Result<(), Refusal>
     ensures told { OnOk result ((facts_of D.Disk replica.new).ahead ≡ []) }
+    // What was delivered are the items of the lines that were handed out.
+    ensures lives { FollowsLines D.Disk next.old replica.old replica.new (ahead input.old.feed (R.remaining source.old)) (ahead input.new.feed (R.remaining source.new)) next.new result }
     ensures notes { NotesEither (R.failed source.old) (R.failed source.new) (W.failed writer.old) (W.failed writer.new) result }
 {
+    parts_are_joined::<D>();
     for _ in 0..u64::MAX {
         match follow_lines(
             alloc, replica, exchange, counts, input, next, source, writer,
@@ -129,9 +186,12 @@ fn end_text<D: Disk, W: Sink>(
     writer: &mut W,
 ) -> Result<(), Refusal>
     ensures ends { EndsText D.Disk input.now.feed (counted input.now.number 1) replica.old replica.new (W.contents writer.old) (W.contents writer.new) result }
+    // Nothing is delivered.
+    ensures lives { (facts_of D.Disk replica.old).phase ≡ Resting → (receipts : List Reply) × Lives D.Disk replica.old replica.new [] receipts result }
     ensures line { IfErr result (λ e. is_of_line e ≡ true → replica.new ≡ replica.old) }
     ensures notes { Notes (W.failed writer.old) (W.failed writer.new) result }
 {
+    parts_are_joined::<D>();
     if !input.feed.is_empty() {
         return Err(Refusal::Malformed {
             at: input.next_number(),
@@ -153,21 +213,27 @@ fn follow_order<D: Disk, R: Source, W: Sink, E: Exchange>(
     exchange: &mut E,
     counts: &mut Counts,
     input: &mut Input,
-    mut position: u64,
+    position: u64,
     source: &mut R,
     writer: &mut W,
 ) -> Result<(), Refusal>
-    requires { (facts_of D.Disk replica.old).ahead ≡ [] }
+    requires told { (facts_of D.Disk replica.old).ahead ≡ [] }
+    requires based { replica.old.engine.checkpoint.base.position ≤ (facts_of D.Disk replica.old).durable }
+    requires within { position ≤ (facts_of D.Disk replica.old).durable }
     ensures told { OnOk result ((facts_of D.Disk replica.new).ahead ≡ []) }
+    // What was delivered are the items of the lines behind those that were durable already.
+    ensures lives { FollowsOrder D.Disk position replica.old replica.new (ahead input.old.feed (R.remaining source.old)) (ahead input.new.feed (R.remaining source.new)) result }
     ensures notes { NotesEither (R.failed source.old) (R.failed source.new) (W.failed writer.old) (W.failed writer.new) result }
 {
+    parts_are_joined::<D>();
+    let mut passed = position;
     match pass_durable(
         alloc,
         replica,
         exchange,
         counts,
         input,
-        &mut position,
+        &mut passed,
         source,
         writer,
     ) {
@@ -175,7 +241,9 @@ fn follow_order<D: Disk, R: Source, W: Sink, E: Exchange>(
         Ok(false) => return Ok(()),
         Err(refusal) => return Err(refusal),
     }
-    let mut next = position.saturating_add(1);
+    let Some(mut next) = passed.checked_add(1) else {
+        return Err(Refusal::Exhausted);
+    };
     follow_text(
         alloc, replica, exchange, counts, input, &mut next, source, writer,
     )
@@ -189,6 +257,7 @@ fn end_behind<D: Disk, W: Sink>(
     writer: &mut W,
 ) -> Refusal
     ensures told { is_of_line refusal ≡ true → is_of_line result ≡ true → (facts_of D.Disk replica.new).ahead ≡ [] }
+    ensures lives { is_of_line refusal ≡ true → (receipts : List Reply) × Lives D.Disk replica.old replica.new [] receipts (Err result) }
     ensures line { is_of_line refusal ≡ true → Notes {T = Unit {0}} (W.failed writer.old) (W.failed writer.new) (Err result) }
     ensures other { is_of_line refusal ≡ false → (result ≡ refusal) × (replica.new ≡ replica.old) × (writer.new ≡ writer.old) }
 {
@@ -209,12 +278,17 @@ fn follow<D: Disk, R: Source, W: Sink, E: Exchange>(
     writer: &mut W,
     exchange: &mut E,
 ) -> Result<(), Refusal>
-    requires { (facts_of D.Disk replica.old).ahead ≡ [] }
+    requires told { (facts_of D.Disk replica.old).ahead ≡ [] }
+    requires based { replica.old.engine.checkpoint.base.position ≤ (facts_of D.Disk replica.old).durable }
+    requires rests { (facts_of D.Disk replica.old).phase ≡ Resting }
     ensures quiet { OnOk result (is_quiet (facts_of D.Disk replica.new) ≡ true) }
+    // What was delivered are the items of the lines behind those that were durable already.
+    ensures lives { FollowsText D.Disk replica.old replica.new (ahead [] (R.remaining source.old)) result }
     // Where it ends at a line, all that came before is durable.
     ensures told { IfErr result (λ e. is_of_line e ≡ true → (facts_of D.Disk replica.new).ahead ≡ []) }
     ensures notes { NotesEither (R.failed source.old) (R.failed source.new) (W.failed writer.old) (W.failed writer.new) result }
 {
+    parts_are_joined::<D>();
     let mut input = Input::new();
     let mut counts = Counts::new();
     let position = match open_order(replica, &mut input, source, writer) {
@@ -253,7 +327,7 @@ pub fn follow_on_disk<D: Disk, R: Source, W: Sink, E: Exchange>(
     writer: &mut W,
     exchange: &mut E,
 ) -> (D, Result<(), Refusal>)
-    ensures ends { EndsOnDisk D.Disk disk result.0 (W.contents writer.old) (W.contents writer.new) result.1 }
+    ensures ends { EndsOnDisk D.Disk disk (ahead [] (R.remaining source.old)) result.0 (W.contents writer.old) (W.contents writer.new) result.1 }
     // A stream fault is one of the streams.
     ensures notes { NotesEither (R.failed source.old) (R.failed source.new) (W.failed writer.old) (W.failed writer.new) result.1 }
 {

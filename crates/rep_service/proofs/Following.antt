@@ -1,0 +1,156 @@
+-- Lines whose items are delivered, one after another.
+use Rattle.std.proofs.Common.{◌≡◌, ℕ, ◌+◌, ◌⊎◌, inl, inr, List, [], ◌∷◌, ◌++◌, length, take, Option, None, Some, Result, Ok, Err, OnOk, refl, sym, ap, subst, ◌∙◌, append-nil, length-append, arith}
+use Rattle.std.proofs.Math.Seq.{take-append_seam, take-append-add, take-length}
+use Rattle.std.proofs.lemmas.List.Concat.{flat_map-append}
+use Rattle.std.specs.Io.KnownBytes.{Consumes}
+use Rattle.std.proofs.KnownBytes.{Consumes-nil, Consumes-trans}
+use Rattle.rep_types.specs.declared.item.Item.{Item}
+use Rattle.rep_types.specs.declared.reply.Reply.{Reply}
+use Rattle.rep_types.specs.declared.refusal.Refusal.{Refusal}
+use Rattle.rep_disk.specs.declared.disk.Disk.{Ghosts}
+use Rattle.rep_replica.specs.Replicas.{Replica}
+use Rattle.rep_requests.specs.Requests.{requested}
+use Rattle.rep_follow.specs.declared.counts.Counts.{Counts}
+use Rattle.rep_follow.specs.declared.following.End.{End}
+use Rattle.rep_follow.specs.declared.following.End.TheVariants.{Line, Text}
+use Rattle.rep_follow.specs.Joining.{PartsAreJoined}
+use Rattle.rep_follow.specs.Taking.{text_of, taken_by, item_awaited, items_in}
+use Rattle.rep_follow.specs.Following.{ended, FollowsItems}
+use Rattle.rep_service.specs.Living.{Lives, TakesItems, FollowsLines}
+use Rattle.rep_service.proofs.Lives.{on_all, lives_none, lives_both, lives_as, lives_goes}
+use Rattle.rep_service.proofs.Items.{items_both, no_item, one_item, numbered_items}
+
+pub text_both : (lines more : List (List ℕ)) → text_of (lines ++ more) ≡ text_of lines ++ text_of more
+text_both lines more = flat_map-append (λ (l : List ℕ). l ++ 10 ∷ []) lines more
+
+pub handed_both : (text between behind : Option (List ℕ)) (lines more : List (List ℕ)) → Consumes text between (text_of lines) → Consumes between behind (text_of more) → Consumes text behind (text_of (lines ++ more))
+handed_both text between behind lines more one two = subst (Consumes text behind) (sym (text_both lines more)) (Consumes-trans text between behind (text_of lines) (text_of more) one two)
+
+all_both : (first : ℕ) (lines more : List (List ℕ)) (items then : List Item) (mid : ℕ) → items ≡ items_in first lines → mid ≡ first + length items → then ≡ items_in mid more → items ++ then ≡ items_in first (lines ++ more)
+all_both first lines more items then mid one at two =
+    let here : items_in mid more ≡ items_in (first + length (items_in first lines)) more = ap (λ k. items_in k more) (at ∙ ap (λ (is : List Item). first + length is) one) in
+    ap (λ (is : List Item). is ++ then) one ∙ ap (λ (is : List Item). items_in first lines ++ is) (two ∙ here) ∙ sym (items_both first lines more)
+
+front_both : (first : ℕ) (lines more : List (List ℕ)) (items then : List Item) (mid most : ℕ) → items ≡ items_in first lines → mid ≡ first + length items → then ≡ take most (items_in mid more) → items ++ then ≡ take (length items + most) (items_in first (lines ++ more))
+front_both first lines more items then mid most one at two =
+    ap (λ (is : List Item). items ++ is) two ∙ sym (take-append-add items (items_in mid more) most) ∙ ap (take (length items + most)) (all_both first lines more items (items_in mid more) mid one at refl)
+
+pub on_both : {P Q : Type 0} (r : Result (Unit {0}) Refusal) → (P → Q) → OnOk r P → OnOk r Q
+on_both (Ok x) f p = f p
+on_both (Err e) f p = tt
+
+module _ {D : Type 0} (g : Ghosts D) where
+  -- it goes on, whatever comes of the rest that changes nothing
+  pub takes_as : (first : ℕ) (lines : List (List ℕ)) (old new : Replica D) (next : ℕ) (r : Result (Unit {0}) Refusal) → TakesItems g first lines old new next (Ok tt) → TakesItems g first lines old new next r
+  takes_as first lines old new next r takes = record {
+    items = takes.items;
+    receipts = takes.receipts;
+    lives = lives_as g old new takes.items takes.receipts r takes.lives;
+    most = takes.most;
+    are = takes.are;
+    all = on_all r takes.all;
+    next_is = on_all r takes.next_is;
+  }
+
+  -- a front of them, behind which it ended
+  takes_front : (first : ℕ) (lines more : List (List ℕ)) (old new : Replica D) (items : List Item) (receipts : List Reply) (next : ℕ) (e : Refusal) → items_in first lines ≡ items → Lives g old new items receipts (Err e) → TakesItems g first (lines ++ more) old new next (Err e)
+  takes_front first lines more old new items receipts next e is lives = record {
+    items = items;
+    receipts = receipts;
+    lives = lives;
+    most = length items;
+    are = sym (take-append_seam items (items_in (first + length items) more)) ∙ ap (take (length items)) (all_both first lines more items (items_in (first + length items) more) (first + length items) (sym is) refl refl);
+    all = tt;
+    next_is = tt;
+  }
+
+  -- the items that were taken, and all of them are the lines
+  pub takes_all : (first : ℕ) (lines : List (List ℕ)) (old new : Replica D) (items : List Item) (receipts : List Reply) (next : ℕ) → items_in first lines ≡ items → next ≡ first + length items → Lives g old new items receipts (Ok tt) → TakesItems g first lines old new next (Ok tt)
+  takes_all first lines old new items receipts next is at lives = record {
+    items = items;
+    receipts = receipts;
+    lives = lives;
+    most = length items;
+    are = sym (take-length items) ∙ ap (take (length items)) (sym is);
+    all = sym is;
+    next_is = at;
+  }
+
+  -- none was taken, and it ended
+  pub takes_not : (first : ℕ) (lines : List (List ℕ)) (old new : Replica D) (receipts : List Reply) (next : ℕ) (e : Refusal) → Lives g old new [] receipts (Err e) → TakesItems g first lines old new next (Err e)
+  takes_not first lines old new receipts next e lives = record { items = []; receipts = receipts; lives = lives; most = 0; are = refl; all = tt; next_is = tt }
+
+  module _ (parts : PartsAreJoined g) where
+    pub takes_both : (first mid next : ℕ) (lines more : List (List ℕ)) (old between new : Replica D) (r : Result (Unit {0}) Refusal) → TakesItems g first lines old between mid (Ok tt) → TakesItems g mid more between new next r → TakesItems g first (lines ++ more) old new next r
+    takes_both first mid next lines more old between new r one two = record {
+      items = one.items ++ two.items;
+      receipts = one.receipts ++ two.receipts;
+      lives = lives_both g parts old between new one.items two.items one.receipts two.receipts r one.lives two.lives;
+      most = length one.items + two.most;
+      are = front_both first lines more one.items two.items mid two.most one.all one.next_is two.are;
+      all = on_both r (all_both first lines more one.items two.items mid one.all one.next_is) two.all;
+      next_is = on_both r (λ at. omega (arith, at, one.next_is, length-append one.items two.items)) two.next_is;
+    }
+
+    -- ---- a line
+
+    module _ (next : ℕ) (line : List ℕ) where
+      pub line_none : (old new : Replica D) (receipts : List Reply) → item_awaited next (requested 0 line) ≡ None → Lives g old new [] receipts (Ok tt) → TakesItems g next (line ∷ []) old new next (Ok tt)
+      line_none old new receipts is lives = takes_all next (line ∷ []) old new [] receipts next (no_item next line [] is) (omega arith) lives
+
+      pub line_taken : (old mid new : Replica D) (receipts more : List Reply) (i : Item) (last : ℕ) (r : Result (Unit {0}) Refusal) → item_awaited next (requested 0 line) ≡ Some i → Lives g old mid [] receipts (Ok tt) → Lives g mid new (taken_by i r) more r
+          → OnOk r (last ≡ next + 1) → TakesItems g next (line ∷ []) old new last r
+      line_taken old mid new receipts more i last (Ok x) is one two at = takes_all next (line ∷ []) old new (i ∷ []) (receipts ++ more) last (one_item next line [] i is) at (lives_both g parts old mid new [] (i ∷ []) receipts more (Ok tt) one two)
+      line_taken old mid new receipts more i last (Err e) is one two at = takes_not next (line ∷ []) old new (receipts ++ more) last e (lives_both g parts old mid new [] [] receipts more (Err e) one two)
+
+    -- ---- the lines
+
+    pub lines_none : (first : ℕ) (r : Replica D) (text : Option (List ℕ)) → FollowsLines g first r r text text first (Ok tt)
+    lines_none first r text = record { lines = []; handed = Consumes-nil text; takes = takes_all first [] r r [] [] first refl (omega arith) (lives_none g parts r (Ok tt)) }
+
+    pub lines_both : (first mid next : ℕ) (old between new : Replica D) (text middle behind : Option (List ℕ)) (r : Result (Unit {0}) Refusal) → FollowsLines g first old between text middle mid (Ok tt) → FollowsLines g mid between new middle behind next r → FollowsLines g first old new text behind next r
+    lines_both first mid next old between new text middle behind r one two = record {
+      lines = one.lines ++ two.lines;
+      handed = handed_both text middle behind one.lines two.lines one.handed two.handed;
+      takes = takes_both first mid next one.lines two.lines old between new r one.takes two.takes;
+    }
+
+    pub lines_as : (first next : ℕ) (old new : Replica D) (text behind : Option (List ℕ)) (r : Result (Unit {0}) Refusal) → FollowsLines g first old new text behind next (Ok tt) → FollowsLines g first old new text behind next r
+    lines_as first next old new text behind r follows = record { lines = follows.lines; handed = follows.handed; takes = takes_as first follows.lines old new next r follows.takes }
+
+    -- ---- numbered items
+
+    module _ (first : ℕ) (old new : Replica D) (was now : Counts) (left : List ℕ) (asked rest text behind : Option (List ℕ)) (last : List ℕ) (before after : Option (List ℕ)) (ends : Result End Refusal) (next : ℕ) (to : Option (List ℕ)) (same : to ≡ behind) (follows : FollowsItems g first old new was now left asked rest text behind last before after (ended ends) next) where
+      abbrev Of : Result End Refusal → Type 0
+      Of r = FollowsItems g first old new was now left asked rest text behind last before after (ended r) next
+
+      pub followed_text : (e : End) → ends ≡ Ok e → e ≡ Text → FollowsLines g first old new text to next (Ok tt)
+      followed_text e is text_is =
+          let f = subst Of (is ∙ ap Ok text_is) follows in
+          record {
+            lines = f.lines;
+            handed = subst (λ (o : Option (List ℕ)). Consumes text o (text_of f.lines)) (sym same) (subst (λ (o : List (List ℕ)). Consumes text behind (text_of o)) f.out_is f.handed);
+            takes = takes_all first f.lines old new f.items f.goes.receipts next (numbered_items first f.lines f.items f.are) f.next_is (lives_goes g old new f.items was now before after (Ok tt) f.goes);
+          }
+
+      pub followed_line : (e : End) → ends ≡ Ok e → e ≡ Line → (line : List ℕ) → line ≡ last → (end : Replica D) (at : ℕ) (r : Result (Unit {0}) Refusal) → TakesItems g next (line ∷ []) new end at r → FollowsLines g first old end text to at r
+      followed_line e is at_line line line_is end at r takes =
+          let f = subst Of (is ∙ ap Ok at_line) follows in
+          record {
+            lines = f.lines ++ last ∷ [];
+            handed = subst (λ (o : Option (List ℕ)). Consumes text o (text_of (f.lines ++ last ∷ []))) (sym same) (subst (λ (o : List (List ℕ)). Consumes text behind (text_of o)) f.out_is f.handed);
+            takes = takes_both first next at f.lines (last ∷ []) old new end r
+                (takes_all first f.lines old new f.items f.goes.receipts next (numbered_items first f.lines f.items f.are) f.next_is (lives_goes g old new f.items was now before after (Ok tt) f.goes))
+                (subst (λ (l : List ℕ). TakesItems g next (l ∷ []) new end at r) line_is takes);
+          }
+
+      pub followed_not : (e : Refusal) → ends ≡ Err e → FollowsLines g first old new text to next (Err e)
+      followed_not e is =
+          let f = subst Of is follows in
+          record { lines = f.out; handed = subst (λ (o : Option (List ℕ)). Consumes text o (text_of f.out)) (sym same) f.handed; takes = by f f.out_is }
+        where
+          by : (f : Of (Err e)) → (f.out ≡ f.lines) ⊎ (f.out ≡ f.lines ++ last ∷ []) → TakesItems g first f.out old new next (Err e)
+          by f (inl out) = subst (λ (o : List (List ℕ)). TakesItems g first o old new next (Err e)) (append-nil f.lines ∙ sym out)
+              (takes_front first f.lines [] old new f.items f.goes.receipts next e (numbered_items first f.lines f.items f.are) (lives_goes g old new f.items was now before after (Err e) f.goes))
+          by f (inr out) = subst (λ (o : List (List ℕ)). TakesItems g first o old new next (Err e)) (sym out)
+              (takes_front first f.lines (last ∷ []) old new f.items f.goes.receipts next e (numbered_items first f.lines f.items f.are) (lives_goes g old new f.items was now before after (Err e) f.goes))

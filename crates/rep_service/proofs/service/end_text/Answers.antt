@@ -1,0 +1,16 @@
+use Rattle.std.proofs.Common.{[], Ok, Err, inr}
+use Rattle.rep_types.specs.declared.refusal.Refusal.TheVariants.{Malformed}
+use Rattle.rep_service.proofs.Lives.{lives_none, lives_goes, lives_as}
+use Rattle.rep_service.proofs.service.end_text.Goals as goal
+
+pub returns-then-not-is_empty-clause-lives : goal.returns-then-not-is_empty-clause-lives
+returns-then-not-is_empty-clause-lives g c = λ rests. ([], lives_none g.D.Disk c.parts_are_joined.ensures c.args.replica.now (Err (Malformed c.next_number.result)))
+
+pub returns-in-Err-clause-lives : goal.returns-in-Err-clause-lives
+returns-in-Err-clause-lives g c = λ rests. (let tells = c.in-Err.ensures.tells (inr rests) in (tells.goes.receipts, lives_goes g.D.Disk c.args.replica.now c.finish.new.replica [] _ _ _ _ (Err c.in-Err.refusal) tells.goes))
+
+pub returns-in-Ok-clause-lives : goal.returns-in-Ok-clause-lives
+returns-in-Ok-clause-lives g c = λ rests. (let tells = c.in_default.ensures.tells (inr rests) in (tells.goes.receipts, lives_as g.D.Disk c.args.replica.now c.finish.new.replica [] tells.goes.receipts c.write_state.result (lives_goes g.D.Disk c.args.replica.now c.finish.new.replica [] _ _ _ _ (Ok tt) tells.goes)))
+
+pub returns-in-Err-window-clause-lives : goal.returns-in-Err-window-clause-lives
+returns-in-Err-window-clause-lives g c = λ rests. (let tells = c.in_default.ensures.tells (inr rests) in (tells.goes.receipts, lives_as g.D.Disk c.args.replica.now c.finish.new.replica [] tells.goes.receipts (Err c.in-Err-window.refusal) (lives_goes g.D.Disk c.args.replica.now c.finish.new.replica [] _ _ _ _ (Ok tt) tells.goes)))
