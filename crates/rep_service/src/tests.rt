@@ -139,14 +139,21 @@ const TEXTS: &[(&str, &str, &str, Result<(), Refusal>)] = &[
     (
         "order 11111111-1111-1111-1111-111111111111:0\n1 item 0 id 1:1 w 0/1=61\n2 item 0 id 1:2 r 0/1 w 0/2=62\n",
         "order 11111111-1111-1111-1111-111111111111:0\n1 item 0 id 1:1 w 0/1=61\nread 0/1\n2 item 0 id 1:2 r 0/1 w 0/2=62\n3 item 2 w 0/1-\n",
-        "at 11111111-1111-1111-1111-111111111111:2 base 0\n1 commit 1:1\nrows 2 0/1=61\n2 conflict 1 1:2\n3 commit 0:0\nstate 11111111-1111-1111-1111-111111111111:3 base 0 window 1 3\n",
+        "at 11111111-1111-1111-1111-111111111111:2 base 0\n1 commit 1:1\nrows 2 0/1=61\n2 conflict 1 1:2\n3 commit 0:0\nstate 11111111-1111-1111-1111-111111111111:3 base 3 window 1 3\n",
         Ok(()),
     ),
-    // from where the node stands
+    // from where the node stands; half of the log's cells are live then, so a checkpoint begins, and is ended
     (
         "order 11111111-1111-1111-1111-111111111111:0\n1 item 0 w 0/1=61\n",
         "order 11111111-1111-1111-1111-111111111111:1\n2 item 1 w 0/2=62\n",
-        "at 11111111-1111-1111-1111-111111111111:1 base 0\n2 commit 0:0\nstate 11111111-1111-1111-1111-111111111111:2 base 0 window 1 2\n",
+        "at 11111111-1111-1111-1111-111111111111:1 base 0\n2 commit 0:0\nstate 11111111-1111-1111-1111-111111111111:2 base 2 window 1 2\n",
+        Ok(()),
+    ),
+    // a checkpoint took the first two, which came one at a time since a transfer was asked for between them: they are old
+    (
+        "order 11111111-1111-1111-1111-111111111111:0\n1 item 0 w 0/1=61\ndonate new out\n2 item 1 w 0/2=62\n",
+        "order 11111111-1111-1111-1111-111111111111:0\n1 item 0 w 0/1=61\n2 item 0 w 0/9=63\n3 item 2 w 0/3=63\n",
+        "at 11111111-1111-1111-1111-111111111111:2 base 2\nold 1\nold 2\n3 commit 0:0\nstate 11111111-1111-1111-1111-111111111111:3 base 2 window 1 2 3\n",
         Ok(()),
     ),
     // another item than the log has, by its labels alone
@@ -193,7 +200,7 @@ const TEXTS: &[(&str, &str, &str, Result<(), Refusal>)] = &[
     (
         "",
         "order 11111111-1111-1111-1111-111111111111:0\n1 item 0 w 0/1=61\ncounters\n",
-        "at 11111111-1111-1111-1111-111111111111:0 base 0\ncounters delivered 1 durable 0 base 0 cells-live 0 cells 4 items 0 blocks 0 checkpoints 0 commit 0 conflict 0 stale 0 future 0 badkey 0 unreadable 0\n1 commit 0:0\nstate 11111111-1111-1111-1111-111111111111:1 base 0 window 1\n",
+        "at 11111111-1111-1111-1111-111111111111:0 base 0\ncounters delivered 1 durable 0 base 0 cells-live 0 cells 4 items 1 blocks 0 checkpoints 0 commit 0 conflict 0 stale 0 future 0 badkey 0 unreadable 0\n1 commit 0:0\nstate 11111111-1111-1111-1111-111111111111:1 base 0 window 1\n",
         Ok(()),
     ),
     // a transfer: what was delivered is durable first
