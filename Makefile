@@ -1,19 +1,8 @@
 # `make run` is the first thing to try, `make build` makes the proved program, `make install` puts it where a shell finds it, and `make test` is all that CI runs.
 
-# The program's crates, floor by floor from the lowest (crates.txt has all crates): each stands behind those that it stands on.
-# values
-CRATES := rep_types rep_streams rep_forms rep_cert rep_record rep_lines rep_requests rep_backlog rep_saved rep_layout rep_versions rep_pages rep_transfer
-# disk
-CRATES += rep_disk rep_cells rep_pool rep_log
-# base
-CRATES += rep_steps rep_image rep_checkpoint
-# node
-CRATES += rep_engine rep_recover rep_replica rep_follow rep_catchup rep_sum
-# threads
-CRATES += rep_ordered rep_snap rep_stations rep_node
-# program
-CRATES += rep_script rep_service rep_serve rep_reasons rep_damage rep_command rep_files replicad
-PROGRAM := crates/replicad/out/replicad
+# The program's crate; scripts/build proves all that a crate stands on, as crates.txt has it.
+PROGRAM_CRATE := replicad
+PROGRAM := crates/$(PROGRAM_CRATE)/out/replicad
 # What `make bench` needs beside these: what times the certifier against the plain node, and what times versions and pages of rows,
 # readers against a lock, and readers beside a node that serves.
 TIMED := uses_snap run_trials run_timed
@@ -28,7 +17,7 @@ run: toolchain
 
 # Proves and builds what is missing, crate by crate, and judges the sample order with the proved program.
 build: toolchain
-	@scripts/build $(CRATES)
+	@scripts/build $(PROGRAM_CRATE)
 	@$(PROGRAM) judge < examples/first-order.txt
 
 # Puts the proved program, and its manual page, under PREFIX.
@@ -59,14 +48,14 @@ gate-time: toolchain
 # behind one lock; items and peeks in a second of a node that serves, beside no reader and beside more; and on a file durable commits in
 # a second beside the same writes alone, checkpoints, and openings.
 bench: toolchain
-	@scripts/build $(CRATES) $(TIMED)
+	@scripts/build $(PROGRAM_CRATE) $(TIMED)
 	@scripts/bench $(PROGRAM) $(COMPARE) $(PARTS)
 
 # Drawn lives of the proved program on a file, killed, stopped within writes and syncs, and opened again, for so many seconds, as
 # `SECONDS=600 make soak`; with SEED=N from the life of this seed on.
 SECONDS ?= 60
 soak: toolchain
-	@scripts/build $(CRATES)
+	@scripts/build $(PROGRAM_CRATE)
 	@scripts/soak --seconds $(SECONDS) $(if $(SEED),--seed $(SEED))
 	@scripts/soak --followed
 
