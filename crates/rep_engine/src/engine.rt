@@ -378,6 +378,13 @@ impl<D: Disk> Engine<D> {
         &self.checkpoint.base().params
     }
 
+    /// The device.
+    pub fn disk(&self) -> &D
+        ensures { result.now ≡ self.now.disk }
+    {
+        self.cells.disk()
+    }
+
     /// Gives the device back.
     pub fn into_disk(self) -> D
         ensures { result ≡ self.disk }

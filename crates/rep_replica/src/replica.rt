@@ -88,6 +88,13 @@ impl<D: Disk> Replica<D> {
         (certifier, backlog, engine)
     }
 
+    /// The device.
+    pub fn disk(&self) -> &D
+        ensures { result.now ≡ self.now.engine.disk }
+    {
+        self.engine.disk()
+    }
+
     /// Gives the device back.
     pub fn into_disk(self) -> D
         ensures { result ≡ self.engine.disk }
