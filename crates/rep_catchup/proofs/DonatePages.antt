@@ -31,12 +31,13 @@ use Rattle.rep_engine.specs.Donating.{IsBasePage, HasNoRow}
 use Rattle.rep_steps.specs.Nodes.{Node}
 use Rattle.rep_replica.specs.Replicas.{Replica}
 use Rattle.rep_replica.specs.Holding.{Holds}
+use Rattle.rep_replica.specs.Asking.{IsAsked}
 use Rattle.rep_checkpoint.specs.Coming.{blank, with_page, is_of_page}
 use Rattle.rep_transfer.specs.declared.pieces.NumberedPage.{NumberedPage}
 use Rattle.rep_transfer.specs.Pieces.{PageFits, page_bytes}
 use Rattle.rep_transfer.specs.Writing.{Wrote}
 use Rattle.rep_catchup.specs.Snapshots.{with_pages, number_of, IsPageOf}
-use Rattle.rep_catchup.specs.Donating.{ReadsAlone, is_in_slot, held_below, rows_below, as_seen, ArePages, ArePagesBelow, IsHeldPage, IsPageFor, IsPageThere, IsPageOfNode, KnowsPage, KnowsPages, page_part, WroteFront, Writes}
+use Rattle.rep_catchup.specs.Donating.{is_in_slot, held_below, rows_below, as_seen, ArePages, ArePagesBelow, IsHeldPage, IsPageFor, IsPageThere, IsPageOfNode, KnowsPage, KnowsPages, page_part, WroteFront, Writes}
 use Rattle.rep_catchup.proofs.DonateReads.{same_of, seen_before}
 use Rattle.rep_catchup.proofs.DonateWrites.{all_same, front_before, front_behind, front_none, front_of_wrote, writes_mapped}
 
@@ -270,14 +271,14 @@ module _ {D : Type 0} (g : Ghosts D) (r : Replica D) where
 
 module _ {D : Type 0} (g : Ghosts D) where
   -- what was known of the replica before
-  pub page_before : (a b : Replica D) (number : ℕ) (old new : Option (List ℕ)) (result : Result (Unit {0}) Refusal) → ReadsAlone g a b → ((n : Node) → Holds g n a → Holds g n b)
+  pub page_before : (a b : Replica D) (number : ℕ) (old new : Option (List ℕ)) (result : Result (Unit {0}) Refusal) → IsAsked g a b → ((n : Node) → Holds g n a → Holds g n b)
       → Writes page_part (IsPageFor b.engine.checkpoint.base number) (λ done. KnowsPage g b number) old new result → Writes page_part (IsPageFor a.engine.checkpoint.base number) (λ done. KnowsPage g a number) old new result
   page_before a b number old new result reads still w =
       let same : b.engine.checkpoint.base ≡ a.engine.checkpoint.base = same_of g (λ (r : Replica D). r.engine.checkpoint.base) a b reads refl in
       writes_mapped page_part _ _ _ _ old new result
       (λ o is. subst (λ (s : SuperBody). IsPageFor s number o) same is)
       (λ done o is known. record {
-        there = λ h. seen_before g a b (λ r l s log. IfSome o (IsPageThere r s)) reads h (known.there (reads.is_honest h));
+        there = λ h. seen_before g a b (λ r l s log. IfSome o (IsPageThere r s)) reads h (known.there (reads.stays_honest h));
         of_node = λ n h. subst (λ (s : SuperBody). IsPageOfNode s n.base.content number o) same (known.of_node n (still n h));
       }) w
 

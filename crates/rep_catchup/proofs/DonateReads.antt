@@ -18,10 +18,11 @@ use Rattle.rep_steps.specs.Nodes.{Node}
 use Rattle.rep_engine.specs.Reading.{halted_by}
 use Rattle.rep_replica.specs.Replicas.{Replica}
 use Rattle.rep_replica.specs.Holding.{Holds}
+use Rattle.rep_replica.specs.Asking.{IsAsked}
 use Rattle.rep_replica.specs.Donating.{Asks}
 use Rattle.rep_streams.specs.Streams.{Notes}
 use Rattle.rep_transfer.specs.Writing.{Wrote}
-use Rattle.rep_catchup.specs.Donating.{EndsEarly, ReadsAlone, IsRunning, Leaves, as_seen, IsBadPart}
+use Rattle.rep_catchup.specs.Donating.{EndsEarly, IsRunning, Leaves, as_seen, IsBadPart}
 
 -- ---- whether it is stopped
 
@@ -57,20 +58,38 @@ asked_part part other (Err e) (inr corrupt) same = let one : part ≡ other = cc
 module _ {D : Type 0} (g : Ghosts D) where
   -- ---- the device was read alone
 
-  pub reads_none : (r : Replica D) → ReadsAlone g r r
-  reads_none r = record { rest = refl; is_honest = λ h. h; same = λ h. refl }
+  pub reads_none : (r : Replica D) → IsAsked g r r
+  reads_none r = record { rest = refl; stays_honest = λ h. h; same = λ h. refl; halts = inl refl; still = λ n h same. h }
 
-  pub reads_then : (a b c : Replica D) → ReadsAlone g a b → ReadsAlone g b c → ReadsAlone g a c
+  -- what stopped it: one of the two, or none
+  abbrev Halts : Replica D → Replica D → Type 0
+  Halts a b = (b.engine.halted ≡ a.engine.halted) ⊎ ((a.engine.halted ≡ None) × (b.engine.halted ≡ Some a.engine.log.phase))
+
+  halts_then : (a b c : Replica D) → b.engine.log.phase ≡ a.engine.log.phase → Halts a b → Halts b c → Halts a c
+  halts_then a b c phase (inl same) (inl again) = inl (again ∙ same)
+  halts_then a b c phase (inl same) (inr halts) = inr (sym same ∙ halts.0, halts.1 ∙ ap Some phase)
+  halts_then a b c phase (inr halts) (inl again) = inr (halts.0, again ∙ halts.1)
+  halts_then a b c phase (inr halts) (inr never) = absurd (let not : None ≡ Some a.engine.log.phase = sym never.0 ∙ halts.1 in cc)
+
+  -- where neither stopped it, the first did not
+  none_stopped : (a b c : Replica D) → Halts a b → Halts b c → c.engine.halted ≡ a.engine.halted → (b.engine.halted ≡ a.engine.halted) × (c.engine.halted ≡ b.engine.halted)
+  none_stopped a b c (inl same) second is = (same, is ∙ sym same)
+  none_stopped a b c (inr halts) (inl again) is = absurd (let not : None ≡ Some a.engine.log.phase = sym halts.0 ∙ sym is ∙ again ∙ halts.1 in cc)
+  none_stopped a b c (inr halts) (inr never) is = absurd (let not : None ≡ Some a.engine.log.phase = sym never.0 ∙ halts.1 in cc)
+
+  pub reads_then : (a b c : Replica D) → IsAsked g a b → IsAsked g b c → IsAsked g a c
   reads_then a b c first second = record {
     rest = second.rest ∙ ap (λ (r : Replica D). record r { engine = record r.engine { disk = c.engine.disk; halted = c.engine.halted } }) first.rest;
-    is_honest = λ h. second.is_honest (first.is_honest h);
-    same = λ h. second.same (first.is_honest h) ∙ first.same h;
+    stays_honest = λ h. second.stays_honest (first.stays_honest h);
+    same = λ h. second.same (first.stays_honest h) ∙ first.same h;
+    halts = halts_then a b c (ap (λ (r : Replica D). r.engine.log.phase) first.rest) first.halts second.halts;
+    still = λ n h is. let each = none_stopped a b c first.halts second.halts is in second.still n (first.still n h each.0) each.1;
   }
 
   -- ---- what a part leaves
 
   -- what the device showed before
-  pub seen_before : (a b : Replica D) (P : Reading → Layout → SuperBody → Log → Type 0) → ReadsAlone g a b → g.honest a.engine.disk → P (as_seen g b.engine) b.engine.layout b.engine.checkpoint.base b.engine.log → P (as_seen g a.engine) a.engine.layout a.engine.checkpoint.base a.engine.log
+  pub seen_before : (a b : Replica D) (P : Reading → Layout → SuperBody → Log → Type 0) → IsAsked g a b → g.honest a.engine.disk → P (as_seen g b.engine) b.engine.layout b.engine.checkpoint.base b.engine.log → P (as_seen g a.engine) a.engine.layout a.engine.checkpoint.base a.engine.log
   seen_before a b P reads is_honest there =
       let here = subst (λ (r : Replica D). P (reading_of r.engine.layout (seen (g.history b.engine.disk))) r.engine.layout r.engine.checkpoint.base r.engine.log) reads.rest there in
       subst (λ (h : History). P (reading_of a.engine.layout (seen h)) a.engine.layout a.engine.checkpoint.base a.engine.log) (reads.same is_honest) here
@@ -144,11 +163,11 @@ module _ {D : Type 0} (g : Ghosts D) where
     no_stream (Err e) (inl fault) same = absurd cc
     no_stream (Err e) (inr corrupt) same = absurd cc
 
-  pub leaves_asked : {T : Type 0} (part : Part) (old new : Replica D) (noted : Bool) (result : Result T Refusal) → Asks g part old new result → IsRunning old
+  pub leaves_asked : {T : Type 0} (part : Part) (old new : Replica D) (noted : Bool) (result : Result T Refusal) → Asks g part old new result → IsAsked g old new → IsRunning old
       → ((n : Node) → Holds g n old → result ≢ Err DiskFault → Holds g n new) → ((n : Node) → Holds g n old → result ≢ Err (Corrupt part))
       → (g.honest old.engine.disk → result ≡ Err (Corrupt part) → IsBadPart (as_seen g old.engine) old.engine.layout old.engine.checkpoint.base old.engine.log part) → Leaves g old new noted noted result
-  leaves_asked part old new noted result asked runs still whole bad = record {
-    reads = record { rest = asked.rest; is_honest = asked.call.stays_honest; same = asked.same };
+  leaves_asked part old new noted result asked alone runs still whole bad = record {
+    reads = alone;
     runs = runs_on old new old.engine.log.phase result (ap (λ (r : Replica D). r.stopped) asked.rest) runs (asked.running runs).0;
     holds = still;
     refused = early part result (asked.running runs).1;
@@ -184,7 +203,7 @@ module _ {D : Type 0} (g : Ghosts D) where
         (subst (λ (k : ℕ). Rises k (g.failures c.engine.disk)) (first.no_fault (λ never. absurd cc)) risen.0, risen.1);
     no_fault = λ other. second.no_fault other ∙ first.no_fault (λ never. absurd cc);
     halts = λ other. second.halts other ∙ first.halts (λ never. absurd cc);
-    bad = λ h part is. seen_before a b (λ r l base log. IsBadPart r l base log part) first.reads h (second.bad (first.reads.is_honest h) part is);
+    bad = λ h part is. seen_before a b (λ r l base log. IsBadPart r l base log part) first.reads h (second.bad (first.reads.stays_honest h) part is);
     notes = subst (λ (noted : Bool). Notes noted after result) (first.notes.fine (λ never. absurd cc)) second.notes;
   }
 
@@ -223,5 +242,5 @@ module _ {D : Type 0} (g : Ghosts D) where
   still_holds a b before after x n left h = left.holds n h (λ is. absurd cc)
 
   -- the base, the log and the layout stay
-  pub same_of : {R : Type 0} (f : Replica D → R) (a b : Replica D) → ReadsAlone g a b → f (record a { engine = record a.engine { disk = b.engine.disk; halted = b.engine.halted } }) ≡ f a → f b ≡ f a
+  pub same_of : {R : Type 0} (f : Replica D → R) (a b : Replica D) → IsAsked g a b → f (record a { engine = record a.engine { disk = b.engine.disk; halted = b.engine.halted } }) ≡ f a → f b ≡ f a
   same_of f a b reads is = ap f reads.rest ∙ is

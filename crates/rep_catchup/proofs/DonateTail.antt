@@ -36,9 +36,10 @@ use Rattle.rep_engine.specs.Engines.{Engine}
 use Rattle.rep_engine.specs.Donating.{IsTail, TheTailIsTold, IsTailBlock, IsBlockAsSpelled}
 use Rattle.rep_replica.specs.Replicas.{Replica}
 use Rattle.rep_replica.specs.Holding.{Holds}
+use Rattle.rep_replica.specs.Asking.{IsAsked}
 use Rattle.rep_transfer.specs.Writing.{Wrote}
 use Rattle.rep_transfer.specs.Transfers.{record_part}
-use Rattle.rep_catchup.specs.Donating.{ReadsAlone, IsRunning, IsBadPart, AreAllBlocks, AreBlocksThere, IsBlockThere, IsSomeBlock, KnowsBlocks, WroteFront, Writes, above, as_seen, durable_items, tail_part}
+use Rattle.rep_catchup.specs.Donating.{IsRunning, IsBadPart, AreAllBlocks, AreBlocksThere, IsBlockThere, IsSomeBlock, KnowsBlocks, WroteFront, Writes, above, as_seen, durable_items, tail_part}
 use Rattle.rep_catchup.proofs.DonateReads.{same_of, seen_before}
 use Rattle.rep_catchup.proofs.DonateWrites.{all_same, front_all, front_before, front_behind, front_none, front_of_wrote}
 
@@ -84,7 +85,7 @@ module _ {D : Type 0} (g : Ghosts D) (n : Node) where
       sym (sym (ap records_of (empty_by_length there.blocks empty)) ∙ there.stands.durable ∙ take-take (n.facts.durable - n.facts.base) holds.taken n.items near)
 
   -- the block is one of the replica's at the beginning
-  pub block_at_first : (a b : Replica D) (index : ℕ) (records : List Judged) → ReadsAlone g a b → g.honest a.engine.disk
+  pub block_at_first : (a b : Replica D) (index : ℕ) (records : List Judged) → IsAsked g a b → g.honest a.engine.disk
       → IsTailBlock n b.engine.layout (g.history b.engine.disk) b.engine.checkpoint.base b.engine.log index records → IsTailBlock n a.engine.layout (g.history a.engine.disk) a.engine.checkpoint.base a.engine.log index records
   block_at_first a b index records reads is_honest block =
       let here = subst (λ (r : Replica D). IsTailBlock n r.engine.layout (g.history b.engine.disk) r.engine.checkpoint.base r.engine.log index records) reads.rest block in
@@ -250,7 +251,7 @@ module _ {D : Type 0} (g : Ghosts D) (r : Replica D) (position : ℕ) where
 
 -- ---- what is read of a replica, by what it was at the beginning
 
-module _ {D : Type 0} (g : Ghosts D) (a b : Replica D) (reads : ReadsAlone g a b) (index : ℕ) (o : Option Contents) where
+module _ {D : Type 0} (g : Ghosts D) (a b : Replica D) (reads : IsAsked g a b) (index : ℕ) (o : Option Contents) where
   same_log : b.engine.log ≡ a.engine.log
   same_log = same_of g (λ (r : Replica D). r.engine.log) a b reads refl
 

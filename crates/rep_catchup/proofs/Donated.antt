@@ -37,6 +37,7 @@ use Rattle.rep_checkpoint.specs.Coming.{blank, with_page}
 use Rattle.rep_engine.specs.Engines.{durable_of}
 use Rattle.rep_replica.specs.Replicas.{Replica}
 use Rattle.rep_replica.specs.Holding.{Holds}
+use Rattle.rep_replica.specs.Asking.{IsAsked}
 use Rattle.rep_transfer.specs.declared.have.Have.{Have}
 use Rattle.rep_transfer.specs.declared.header.Header.{Header}
 use Rattle.rep_transfer.specs.Haves.{IsHeader, header_bytes}
@@ -46,7 +47,7 @@ use Rattle.rep_transfer.specs.Pieces.{page_bytes}
 use Rattle.rep_transfer.specs.Transfers.{Snapshot, Transfer, IsTransfer, IsTold, kept_bytes, snapshot_bytes, snapshot_part, end_bytes, transfer_bytes}
 use Rattle.rep_transfer.specs.Writing.{Wrote}
 use Rattle.rep_catchup.specs.Snapshots.{with_pages, state_of, number_of, IsSnapshot}
-use Rattle.rep_catchup.specs.Donating.{IsRunning, ReadsAlone, as_seen, is_in_slot, held_below, rows_below, StandsBeside, ArePages, ArePagesBelow, IsPageThere, IsSnapshotThere, AreAllBlocks, AreBlocksThere, IsSnapshotFor, IsSnapshotOf, IsDonated, IsBaseFor, NeedsSnapshot, ComesWhereNeeded, HasAllParts, Brings, KnowsWindow, KnowsPages, KnowsSnapshot, KnowsBlocks, Donates, WroteFront, WroteLess, Writes, above, behind, durable_items, tail_part, window_part}
+use Rattle.rep_catchup.specs.Donating.{IsRunning, as_seen, is_in_slot, held_below, rows_below, StandsBeside, ArePages, ArePagesBelow, IsPageThere, IsSnapshotThere, AreAllBlocks, AreBlocksThere, IsSnapshotFor, IsSnapshotOf, IsDonated, IsBaseFor, NeedsSnapshot, ComesWhereNeeded, HasAllParts, Brings, KnowsWindow, KnowsPages, KnowsSnapshot, KnowsBlocks, Donates, WroteFront, WroteLess, Writes, above, behind, durable_items, tail_part, window_part}
 use Rattle.rep_catchup.proofs.DonateReads.{same_of, seen_before}
 use Rattle.rep_catchup.proofs.DonateWrites.{front_before, front_behind, front_less, front_none, front_of_wrote, writes_mapped}
 use Rattle.rep_catchup.proofs.DonateWindow.{some_window}
@@ -234,7 +235,7 @@ module _ {D : Type 0} (g : Ghosts D) where
   }
 
   -- what was known of the replica before
-  pub pages_before : (a b : Replica D) (old new : Option (List ℕ)) (result : Result (Unit {0}) Refusal) → ReadsAlone g a b → ((n : Node) → Holds g n a → Holds g n b)
+  pub pages_before : (a b : Replica D) (old new : Option (List ℕ)) (result : Result (Unit {0}) Refusal) → IsAsked g a b → ((n : Node) → Holds g n a → Holds g n b)
       → Writes (flat_map page_bytes) (ArePagesBelow b.engine.checkpoint.base (pages_of b.engine.checkpoint.base.params.rows)) (λ done. KnowsPages g b (pages_of b.engine.checkpoint.base.params.rows)) old new result
       → Writes (flat_map page_bytes) (ArePagesBelow a.engine.checkpoint.base (pages_of a.engine.checkpoint.base.params.rows)) (λ done. KnowsPages g a (pages_of a.engine.checkpoint.base.params.rows)) old new result
   pages_before a b old new result reads still w =
@@ -242,18 +243,18 @@ module _ {D : Type 0} (g : Ghosts D) where
       writes_mapped (flat_map page_bytes) _ _ _ _ old new result
       (λ pages are. subst (λ (s : SuperBody). ArePagesBelow s (pages_of s.params.rows) pages) same are)
       (λ done pages are known. record {
-        there = λ h. seen_before g a b (λ r l s log. AllByRecursion (IsPageThere r s) pages) reads h (known.there (reads.is_honest h));
+        there = λ h. seen_before g a b (λ r l s log. AllByRecursion (IsPageThere r s) pages) reads h (known.there (reads.stays_honest h));
         of_node = λ n h. subst (λ (s : SuperBody). ArePages s n.base.content (pages_of s.params.rows) pages) same (known.of_node n (still n h));
       }) w
 
-  pub blocks_before : (a b : Replica D) (position : ℕ) (old new : Option (List ℕ)) (result : Result (Unit {0}) Refusal) → ReadsAlone g a b → ((n : Node) → Holds g n a → Holds g n b)
+  pub blocks_before : (a b : Replica D) (position : ℕ) (old new : Option (List ℕ)) (result : Result (Unit {0}) Refusal) → IsAsked g a b → ((n : Node) → Holds g n a → Holds g n b)
       → Writes (tail_part position) (AreAllBlocks b.engine.log) (λ done. KnowsBlocks g b) old new result → Writes (tail_part position) (AreAllBlocks a.engine.log) (λ done. KnowsBlocks g a) old new result
   blocks_before a b position old new result reads still w =
       let same : b.engine.log ≡ a.engine.log = same_of g (λ (r : Replica D). r.engine.log) a b reads refl in
       writes_mapped (tail_part position) _ _ _ _ old new result
       (λ blocks are. subst (λ (log : Log). AreAllBlocks log blocks) same are)
       (λ done blocks are known. record {
-        there = λ h. seen_before g a b (λ r l s log. AreBlocksThere r l log.start blocks) reads h (known.there (reads.is_honest h));
+        there = λ h. seen_before g a b (λ r l s log. AreBlocksThere r l log.start blocks) reads h (known.there (reads.stays_honest h));
         of_node = λ n h. known.of_node n (still n h);
       }) w
 

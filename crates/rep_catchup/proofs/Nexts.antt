@@ -5,7 +5,7 @@ use Rattle.std.proofs.lemmas.List.{map-append, drop-take, drop-drop, take-take, 
 use Rattle.rep_types.specs.declared.judged.Judged.{Judged}
 use Rattle.rep_types.specs.Settings.{Setting}
 use Rattle.rep_types.specs.Windows.{Window}
-use Rattle.rep_types.specs.Order.{Order, items_of, history, verdict, judge, window, state}
+use Rattle.rep_types.specs.Order.{Order, items_of, history, verdict, judge, window}
 use Rattle.rep_types.specs.ByItems.{HistoryByItems}
 use Rattle.rep_types.specs.Verdicts.{StateIsEnough}
 use Rattle.rep_types.proofs.Lists.{same_behind}

@@ -15,7 +15,6 @@ use Rattle.rep_record.specs.Blocks.{IsBlock, block_bytes}
 use Rattle.rep_disk.specs.declared.disk.Disk.{Ghosts}
 use Rattle.rep_disk.specs.History.{seen}
 use Rattle.rep_disk.specs.Calls.{Rises}
-use Rattle.rep_disk.specs.Devices.{SameHistory}
 use Rattle.rep_layout.specs.declared.format.Format.TheVariants.{Two}
 use Rattle.rep_layout.specs.declared.page_state.PageState.{PageState}
 use Rattle.rep_layout.specs.declared.page_state.PageState.TheVariants.{Nowhere, In}
@@ -37,8 +36,9 @@ use Rattle.rep_steps.specs.Standings.{Standing}
 use Rattle.rep_steps.specs.Nodes.{Node}
 use Rattle.rep_engine.specs.Engines.{Engine, durable_of}
 use Rattle.rep_engine.specs.Donating.{HasNoRow}
-use Rattle.rep_replica.specs.Replicas.{Replica, OnlyItsEngineAsks}
+use Rattle.rep_replica.specs.Replicas.{Replica}
 use Rattle.rep_replica.specs.Holding.{Holds}
+use Rattle.rep_replica.specs.Asking.{IsAsked}
 use Rattle.rep_checkpoint.specs.Coming.{blank}
 use Rattle.rep_streams.specs.Streams.{Notes}
 use Rattle.rep_transfer.specs.declared.have.Have.{Have}
@@ -74,12 +74,6 @@ EndsEarly e = (e ≡ StreamFault) ⊎ ((e ≡ DiskFault) ⊎ ((part : Part) × (
 
 -- ---- what it leaves at the donor
 
--- The device was read, and nothing else changed but whether the replica is stopped.
-pub record ReadsAlone {D : Type 0} (g : Ghosts D) (old new : Replica D) : Type 0 where
-  pub rest : OnlyItsEngineAsks old new
-  pub is_honest : g.honest old.engine.disk → g.honest new.engine.disk
-  pub same : SameHistory g old.engine.disk new.engine.disk
-
 -- It isn't stopped, from outside or by its device.
 abbrev pub IsRunning : {D : Type 0} → Replica D → Type 0
 IsRunning r = (r.stopped || is_some r.engine.halted) ≡ false
@@ -96,12 +90,12 @@ IsBadPart r l b log InWindow = (v : Kept) → IsWindowBody b.params (beside b v)
 IsBadPart r l b log InLog = (number : ℕ) × (log.start ≤ number) × (number < log.next) × ((records : List Judged) → IsBlock number records → r (log_of l number) ≡ Some (block_bytes number records) → ⊥)
 IsBadPart r l b log InPages = (number : ℕ) × IsBadPage r b number
 
--- What a part of a donation leaves: the device was read alone; where it succeeds the replica runs on; one that stands for a node goes on
+-- What a part of a donation leaves: the device was asked, and nothing else was done; where it succeeds the replica runs on; one that stands for a node goes on
 -- to, unless the device failed, and shows nothing that is not of its form; a device's failure is told exactly where there was one,
 -- and stops the replica, which is stopped by nothing else; on an honest device a part is told corrupt only where its bytes are bad; and
 -- the writer's failure is told exactly where it failed.
 pub record Leaves {D T : Type 0} (g : Ghosts D) (old new : Replica D) (before after : Bool) (result : Result T Refusal) : Type 0 where
-  pub reads : ReadsAlone g old new
+  pub reads : IsAsked g old new
   pub runs : OnOk result (IsRunning new)
   pub holds : (n : Node) → Holds g n old → result ≢ Err DiskFault → Holds g n new
   pub refused : IfErr result EndsEarly

@@ -16,9 +16,10 @@ ghost use Rattle.rep_layout.specs.Supers.{IsNil};
 ghost use Rattle.rep_steps.specs.Nodes.{Node};
 ghost use Rattle.rep_replica.specs.Replicas.{facts_of};
 ghost use Rattle.rep_replica.specs.Holding.{Holds};
+ghost use Rattle.rep_replica.specs.Asking.{IsAsked};
 ghost use Rattle.rep_streams.specs.Streams.{Notes};
 ghost use Rattle.rep_transfer.specs.Writing.{Wrote};
-ghost use Rattle.rep_catchup.specs.Donating.{IsAskedFor, IsOfCluster, IsFirstRefusal, ComesFirst, EndsEarly, ReadsAlone, IsRunning, Leaves, IsDonated, NeedsSnapshot, StandsBeside, ArePagesBelow, IsPageFor, IsSnapshotFor, IsBaseFor, AreAllBlocks, window_part, page_part, tail_part, Writes, KnowsWindow, KnowsPage, KnowsPages, KnowsSnapshot, KnowsBase, KnowsBlocks, Donates, WroteTransfer, WroteLess, DonatesAsSpelled, as_seen, held_below, above};
+ghost use Rattle.rep_catchup.specs.Donating.{IsAskedFor, IsOfCluster, IsFirstRefusal, ComesFirst, EndsEarly, IsRunning, Leaves, IsDonated, NeedsSnapshot, StandsBeside, ArePagesBelow, IsPageFor, IsSnapshotFor, IsBaseFor, AreAllBlocks, window_part, page_part, tail_part, Writes, KnowsWindow, KnowsPage, KnowsPages, KnowsSnapshot, KnowsBase, KnowsBlocks, Donates, WroteTransfer, WroteLess, DonatesAsSpelled, as_seen, held_below, above};
 ghost use Rattle.rep_transfer.specs.Pieces.{page_bytes};
 ghost use Rattle.rep_transfer.specs.Transfers.{Snapshot, Transfer, snapshot_bytes, snapshot_part, record_part, transfer_bytes};
 
@@ -294,7 +295,8 @@ pub fn donate<D: Disk, W: Sink>(
 ) -> Result<u64, Refusal>
     ensures refusal { (o : Option Refusal) → IsFirstRefusal (facts_of D.Disk replica.old) have.now o → IfSome o (λ e. (result ≡ Err e) × (replica.new ≡ replica.old) × Keeps (W.contents writer.old) (W.contents writer.new)) }
     ensures early { IsFirstRefusal (facts_of D.Disk replica.old) have.now None → IfErr result EndsEarly }
-    ensures reads { ReadsAlone D.Disk replica.old replica.new }
+    // The device was asked, and nothing else was done: so it is a part of a life.
+    ensures reads { IsAsked D.Disk replica.old replica.new }
     ensures holds { (n : Node) → Holds D.Disk n replica.old → result ≢ Err Refusal.DiskFault → Holds D.Disk n replica.new }
     // An honest device of a node shows nothing that is not of its form.
     ensures whole { (n : Node) → Holds D.Disk n replica.old → (part : Part) → result ≢ Err (Refusal.Corrupt part) }

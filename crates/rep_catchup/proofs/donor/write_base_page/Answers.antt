@@ -11,11 +11,11 @@ pub returns-in_err-found-clause-leaves : goal.returns-in_err-found-clause-leaves
 returns-in_err-found-clause-leaves g c =
     let p = err_from_is_err_and c.from_residual.result c.from_residual.ensures.1 in
     rw (p.1, p.2) (leaves_passed g.D.Disk c.args.replica.now c.base_page.new.self _ _ c.in_err-found.field-0.0
-    (leaves_asked g.D.Disk _ c.args.replica.now c.base_page.new.self (g.W.Sink.failed c.args.writer.now) (Err c.in_err-found.field-0.0) c.in_err-found.ensures.asks c.requires c.in_err-found.ensures.holds c.in_err-found.ensures.whole (λ h is. (c.from.result, (c.in_err-found.ensures.spelled h).corrupt is))))
+    (leaves_asked g.D.Disk _ c.args.replica.now c.base_page.new.self (g.W.Sink.failed c.args.writer.now) (Err c.in_err-found.field-0.0) c.in_err-found.ensures.asks c.in_err-found.ensures.asked c.requires c.in_err-found.ensures.holds c.in_err-found.ensures.whole (λ h is. (c.from.result, (c.in_err-found.ensures.spelled h).corrupt is))))
 
 pub returns-in-Some-clause-leaves : goal.returns-in-Some-clause-leaves
 returns-in-Some-clause-leaves g c =
-    let asked = leaves_asked g.D.Disk _ c.args.replica.now c.base_page.new.self (g.W.Sink.failed c.args.writer.now) (Ok c.in_ok-found.field-0) c.in_ok-found.ensures.asks c.requires c.in_ok-found.ensures.holds c.in_ok-found.ensures.whole (λ h is. (c.from.result, (c.in_ok-found.ensures.spelled h).corrupt is)) in
+    let asked = leaves_asked g.D.Disk _ c.args.replica.now c.base_page.new.self (g.W.Sink.failed c.args.writer.now) (Ok c.in_ok-found.field-0) c.in_ok-found.ensures.asks c.in_ok-found.ensures.asked c.requires c.in_ok-found.ensures.holds c.in_ok-found.ensures.whole (λ h is. (c.from.result, (c.in_ok-found.ensures.spelled h).corrupt is)) in
     leaves_then g.D.Disk c.args.replica.now c.base_page.new.self c.base_page.new.self _ _ _ c.in_ok-found.field-0 c.write_page.result asked
     (leaves_wrote g.D.Disk c.base_page.new.self _ _ _ _ _ c.write_page.result c.write_page.ensures.written c.write_page.ensures.notes asked.runs)
 
@@ -43,7 +43,7 @@ returns-in_err-found-clause-writes g c =
 pub returns-in-None-clause-leaves : goal.returns-in-None-clause-leaves
 returns-in-None-clause-leaves g c =
     leaves_given g.D.Disk c.args.replica.now c.base_page.new.self _ _ c.in_ok-found.field-0 tt
-    (leaves_asked g.D.Disk _ c.args.replica.now c.base_page.new.self (g.W.Sink.failed c.args.writer.now) (Ok c.in_ok-found.field-0) c.in_ok-found.ensures.asks c.requires c.in_ok-found.ensures.holds c.in_ok-found.ensures.whole (λ h is. (c.from.result, (c.in_ok-found.ensures.spelled h).corrupt is)))
+    (leaves_asked g.D.Disk _ c.args.replica.now c.base_page.new.self (g.W.Sink.failed c.args.writer.now) (Ok c.in_ok-found.field-0) c.in_ok-found.ensures.asks c.in_ok-found.ensures.asked c.requires c.in_ok-found.ensures.holds c.in_ok-found.ensures.whole (λ h is. (c.from.result, (c.in_ok-found.ensures.spelled h).corrupt is)))
 
 pub returns-in-None-clause-writes : goal.returns-in-None-clause-writes
 returns-in-None-clause-writes g c =

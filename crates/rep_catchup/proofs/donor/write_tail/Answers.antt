@@ -24,7 +24,7 @@ returns-in_err-block-clause-leaves g c =
     let new = c.tail_block.new.self in
     let left = c.loop-block.invariant.leaves in
     rw (p.1, p.2) (leaves_passed g.D.Disk old new _ _ e (leaves_then g.D.Disk old now new (g.W.Sink.failed c.args.writer.now) (g.W.Sink.failed c.loop-block.writer) (g.W.Sink.failed c.loop-block.writer) tt (Err e) left
-    (leaves_asked g.D.Disk _ now new (g.W.Sink.failed c.loop-block.writer) (Err e) c.in_err-block.ensures.asks left.runs c.in_err-block.ensures.holds c.in_err-block.ensures.whole
+    (leaves_asked g.D.Disk _ now new (g.W.Sink.failed c.loop-block.writer) (Err e) c.in_err-block.ensures.asks c.in_err-block.ensures.asked left.runs c.in_err-block.ensures.holds c.in_err-block.ensures.whole
     (λ h is. bad_block (as_seen g.D.Disk now.engine) now.engine.layout now.engine.checkpoint.base now.engine.log c.loop-block.index (Err e) (λ past. c.in_err-block.ensures.behind past left.runs) (c.in_err-block.ensures.spelled h) is))))
 
 pub returns-in_err-block-clause-writes : goal.returns-in_err-block-clause-writes
@@ -42,7 +42,7 @@ returns-in_err-write_block-clause-leaves g c =
     let new = c.tail_block.new.self in
     let left = c.loop-block.invariant.leaves in
     let read = leaves_then g.D.Disk old now new (g.W.Sink.failed c.args.writer.now) (g.W.Sink.failed c.loop-block.writer) (g.W.Sink.failed c.loop-block.writer) tt (Ok x) left
-    (leaves_asked g.D.Disk _ now new (g.W.Sink.failed c.loop-block.writer) (Ok x) c.in_ok-block.ensures.asks left.runs c.in_ok-block.ensures.holds c.in_ok-block.ensures.whole
+    (leaves_asked g.D.Disk _ now new (g.W.Sink.failed c.loop-block.writer) (Ok x) c.in_ok-block.ensures.asks c.in_ok-block.ensures.asked left.runs c.in_ok-block.ensures.holds c.in_ok-block.ensures.whole
     (λ h is. bad_block (as_seen g.D.Disk now.engine) now.engine.layout now.engine.checkpoint.base now.engine.log c.loop-block.index (Ok x) (λ past. c.in_ok-block.ensures.behind past left.runs) (c.in_ok-block.ensures.spelled h) is)) in
     rw (p.1, p.2) (leaves_then g.D.Disk old new new _ _ _ x (Err e) read (leaves_cut g.D.Disk new _ _ e c.in_err-write_block.ensures.written.refused c.in_err-write_block.ensures.notes))
 
@@ -67,14 +67,14 @@ loop-block-preserved g c =
     let new = c.tail_block.new.self in
     let left = c.loop-block.invariant.leaves in
     let read = leaves_then g.D.Disk old now new (g.W.Sink.failed c.args.writer.now) (g.W.Sink.failed c.loop-block.writer) (g.W.Sink.failed c.loop-block.writer) tt (Ok x) left
-    (leaves_asked g.D.Disk _ now new (g.W.Sink.failed c.loop-block.writer) (Ok x) c.in_ok-block.ensures.asks left.runs c.in_ok-block.ensures.holds c.in_ok-block.ensures.whole
+    (leaves_asked g.D.Disk _ now new (g.W.Sink.failed c.loop-block.writer) (Ok x) c.in_ok-block.ensures.asks c.in_ok-block.ensures.asked left.runs c.in_ok-block.ensures.holds c.in_ok-block.ensures.whole
     (λ h is. bad_block (as_seen g.D.Disk now.engine) now.engine.layout now.engine.checkpoint.base now.engine.log c.loop-block.index (Ok x) (λ past. c.in_ok-block.ensures.behind past left.runs) (c.in_ok-block.ensures.spelled h) is)) in
     let due = due_first g.D.Disk old now left.reads c.loop-block.index x block c.in-Some.is c.in_ok-block.ensures.none in
     let form = form_first g.D.Disk old now left.reads c.loop-block.index x block c.in-Some.is c.in_ok-block.ensures.form in
     record {
       leaves = leaves_then g.D.Disk old new new _ _ _ x (Ok tt) read (leaves_noted g.D.Disk new _ _ tt c.in_ok-write_block.ensures.notes read.runs);
       written = wrote_more_blocks g.D.Disk old c.args.position c.the_tail_is_told.ensures c.loop-block.index block.records (g.W.Sink.contents c.args.writer.now) (g.W.Sink.contents c.loop-block.writer) (g.W.Sink.contents c.write_block.new.writer) c.loop-block.invariant.written due form
-          (λ h. there_first g.D.Disk old now left.reads c.loop-block.index x block c.in-Some.is h (c.in_ok-block.ensures.spelled (left.reads.is_honest h)).block)
+          (λ h. there_first g.D.Disk old now left.reads c.loop-block.index x block c.in-Some.is h (c.in_ok-block.ensures.spelled (left.reads.stays_honest h)).block)
           (λ n h.
           let here = subst (λ (o : Option Contents). IfSome o (λ b. IsTailBlock n now.engine.layout (g.D.Disk.history now.engine.disk) now.engine.checkpoint.base now.engine.log c.loop-block.index b.records)) c.in-Some.is
           (c.in_ok-block.ensures.block n (still_holds g.D.Disk old now _ _ tt n left h)) in
@@ -90,7 +90,7 @@ returns-clause-leaves g c =
     let new = c.tail_block.new.self in
     let left = c.loop-block.invariant.leaves in
     leaves_given g.D.Disk old new _ _ x tt (leaves_then g.D.Disk old now new (g.W.Sink.failed c.args.writer.now) (g.W.Sink.failed c.loop-block.writer) (g.W.Sink.failed c.loop-block.writer) tt (Ok x) left
-    (leaves_asked g.D.Disk _ now new (g.W.Sink.failed c.loop-block.writer) (Ok x) c.in_ok-block.ensures.asks left.runs c.in_ok-block.ensures.holds c.in_ok-block.ensures.whole
+    (leaves_asked g.D.Disk _ now new (g.W.Sink.failed c.loop-block.writer) (Ok x) c.in_ok-block.ensures.asks c.in_ok-block.ensures.asked left.runs c.in_ok-block.ensures.holds c.in_ok-block.ensures.whole
     (λ h is. bad_block (as_seen g.D.Disk now.engine) now.engine.layout now.engine.checkpoint.base now.engine.log c.loop-block.index (Ok x) (λ past. c.in_ok-block.ensures.behind past left.runs) (c.in_ok-block.ensures.spelled h) is)))
 
 pub returns-clause-writes : goal.returns-clause-writes

@@ -13,7 +13,7 @@ pub returns-in_err-write_front-clause-leaves : goal.returns-in_err-write_front-c
 returns-in_err-write_front-clause-leaves g c =
     let p = err_from_is_err_and c.from_residual-in_err-write_front.result c.from_residual-in_err-write_front.ensures.1 in
     rw (p.1, p.2) (leaves_then g.D.Disk c.args.replica.now c.base_window.new.self c.base_window.new.self _ _ _ c.in_ok-window.window (Err c.in_err-write_front.field-0.0)
-    (leaves_asked g.D.Disk _ c.args.replica.now c.base_window.new.self (g.W.Sink.failed c.args.writer.now) (Ok c.in_ok-window.window) c.in_ok-window.ensures.asks c.requires c.in_ok-window.ensures.holds c.in_ok-window.ensures.whole (λ h is. (c.in_ok-window.ensures.spelled h).corrupt is))
+    (leaves_asked g.D.Disk _ c.args.replica.now c.base_window.new.self (g.W.Sink.failed c.args.writer.now) (Ok c.in_ok-window.window) c.in_ok-window.ensures.asks c.in_ok-window.ensures.asked c.requires c.in_ok-window.ensures.holds c.in_ok-window.ensures.whole (λ h is. (c.in_ok-window.ensures.spelled h).corrupt is))
     (leaves_cut g.D.Disk c.base_window.new.self _ _ c.in_err-write_front.field-0.0 (c.in_err-write_front.ensures.written []).refused c.in_err-write_front.ensures.notes))
 
 pub returns-in_err-write_count-clause-leaves : goal.returns-in_err-write_count-clause-leaves
@@ -21,7 +21,7 @@ returns-in_err-write_count-clause-leaves g c =
     let p = err_from_is_err_and c.from_residual-in_err-write_count.result c.from_residual-in_err-write_count.ensures.1 in
     let old = c.args.replica.now in
     let new = c.base_window.new.self in
-    let asked = leaves_asked g.D.Disk _ old new (g.W.Sink.failed c.args.writer.now) (Ok c.in_ok-window.window) c.in_ok-window.ensures.asks c.requires c.in_ok-window.ensures.holds c.in_ok-window.ensures.whole (λ h is. (c.in_ok-window.ensures.spelled h).corrupt is) in
+    let asked = leaves_asked g.D.Disk _ old new (g.W.Sink.failed c.args.writer.now) (Ok c.in_ok-window.window) c.in_ok-window.ensures.asks c.in_ok-window.ensures.asked c.requires c.in_ok-window.ensures.holds c.in_ok-window.ensures.whole (λ h is. (c.in_ok-window.ensures.spelled h).corrupt is) in
     let fronted = leaves_then g.D.Disk old new new (g.W.Sink.failed c.args.writer.now) (g.W.Sink.failed c.args.writer.now) (g.W.Sink.failed c.write_front.new.writer) c.in_ok-window.window (Ok tt) asked (leaves_noted g.D.Disk new _ _ tt c.in_ok-write_front.ensures.notes asked.runs) in
     rw (p.1, p.2) (leaves_then g.D.Disk old new new _ _ _ tt (Err c.in_err-write_count.field-0.0) fronted
     (leaves_cut g.D.Disk new _ _ c.in_err-write_count.field-0.0 c.in_err-write_count.ensures.written.refused c.in_err-write_count.ensures.notes))
@@ -30,7 +30,7 @@ pub returns-clause-leaves : goal.returns-clause-leaves
 returns-clause-leaves g c =
     let old = c.args.replica.now in
     let new = c.base_window.new.self in
-    let asked = leaves_asked g.D.Disk _ old new (g.W.Sink.failed c.args.writer.now) (Ok c.in_ok-window.window) c.in_ok-window.ensures.asks c.requires c.in_ok-window.ensures.holds c.in_ok-window.ensures.whole (λ h is. (c.in_ok-window.ensures.spelled h).corrupt is) in
+    let asked = leaves_asked g.D.Disk _ old new (g.W.Sink.failed c.args.writer.now) (Ok c.in_ok-window.window) c.in_ok-window.ensures.asks c.in_ok-window.ensures.asked c.requires c.in_ok-window.ensures.holds c.in_ok-window.ensures.whole (λ h is. (c.in_ok-window.ensures.spelled h).corrupt is) in
     let fronted = leaves_then g.D.Disk old new new (g.W.Sink.failed c.args.writer.now) (g.W.Sink.failed c.args.writer.now) (g.W.Sink.failed c.write_front.new.writer) c.in_ok-window.window (Ok tt) asked (leaves_noted g.D.Disk new _ _ tt c.in_ok-write_front.ensures.notes asked.runs) in
     let counted = leaves_then g.D.Disk old new new (g.W.Sink.failed c.args.writer.now) (g.W.Sink.failed c.write_front.new.writer) (g.W.Sink.failed c.write_count.new.writer) tt (Ok tt) fronted (leaves_noted g.D.Disk new _ _ tt c.in_ok-write_count.ensures.notes asked.runs) in
     leaves_then g.D.Disk old new new _ _ _ tt c.write_entries.result counted
@@ -82,4 +82,4 @@ returns-in_err-window-clause-leaves g c =
     let p = err_from_is_err_and c.from_residual.result c.from_residual.ensures.1 in
     let e = c.in_err-window.field-0.0 in
     rw (p.1, p.2) (leaves_passed g.D.Disk c.args.replica.now c.base_window.new.self _ _ e
-    (leaves_asked g.D.Disk _ c.args.replica.now c.base_window.new.self (g.W.Sink.failed c.args.writer.now) (Err e) c.in_err-window.ensures.asks c.requires c.in_err-window.ensures.holds c.in_err-window.ensures.whole (λ h is. (c.in_err-window.ensures.spelled h).corrupt is)))
+    (leaves_asked g.D.Disk _ c.args.replica.now c.base_window.new.self (g.W.Sink.failed c.args.writer.now) (Err e) c.in_err-window.ensures.asks c.in_err-window.ensures.asked c.requires c.in_err-window.ensures.holds c.in_err-window.ensures.whole (λ h is. (c.in_err-window.ensures.spelled h).corrupt is)))

@@ -1,4 +1,4 @@
-use Rattle.std.proofs.Common.{rules, ◌≡◌, Err, ap, inl, sym, subst, ◌∙◌}
+use Rattle.std.proofs.Common.{rules, Err, ap, inl, sym, subst, ◌∙◌}
 use Rattle.rep_checkpoint.specs.Coming.{blank}
 use Rattle.rep_engine.specs.Engines.{Engine}
 use Rattle.rep_replica.specs.Replicas.{Replica}
