@@ -1,4 +1,5 @@
 pub mod Answering
+pub mod Refusing
 pub mod Summing
 pub mod Formatting
 pub mod Judging

@@ -6,6 +6,7 @@ ghost use Rattle.rep_engine.specs.Engines.{gtid_of};
 ghost use Rattle.rep_streams.specs.Streams.{Notes};
 ghost use Rattle.rep_script.specs.Answering.{Tells, state_line};
 
+use crate::refused::write_refused;
 use arrayvec::ArrayVec;
 use rep_disk::Disk;
 use rep_record::write_verdict;
@@ -111,17 +112,6 @@ fn write_row<W: Sink>(writer: &mut W, row: Option<&Value>) -> Result<(), Refusal
     let mut line = Line::new();
     let made = put_row(&mut line, value);
     write_made(writer, &line, made)
-}
-
-/// Writes the line of a refusal that a script goes on behind: `refused`, its number and its text.
-///
-/// Refuses with `StreamFault` a writer that fails, which it notes.
-pub fn write_refused<W: Sink>(writer: &mut W, refusal: Refusal) -> Result<(), Refusal>
-    ensures notes { Notes (W.failed writer.old) (W.failed writer.new) result }
-    ensures refused { IfErr result (λ refusal. refusal ≡ Refusal.StreamFault) }
-{
-    let number = refusal.number();
-    write_line(writer, format_args!("refused {number} {refusal}"))
 }
 
 /// Writes what the replica answered to its last step: a verdict line under the seqno of its last delivery, or the line or

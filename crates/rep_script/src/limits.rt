@@ -8,7 +8,8 @@ ghost use Rattle.rep_replica.specs.Holding.{Holds};
 ghost use Rattle.rep_streams.specs.Streams.{Notes};
 ghost use Rattle.rep_script.specs.Answering.{Tells, limits_line};
 
-use crate::answers::{write_line, write_refused};
+use crate::answers::write_line;
+use crate::refused::write_refused;
 use rep_disk::Disk;
 use rep_replica::Replica;
 use rep_streams::Sink;

@@ -9,10 +9,11 @@ ghost use Rattle.rep_script.specs.ScriptLines.{script_line};
 ghost use Rattle.rep_script.specs.Judging.{reading_of, said_ahead, content};
 ghost use Rattle.rep_script.specs.Scripts.{script, script_on_disk, disk_line, Opened, OnNewDisk, Crashes, Stops, ScriptEnds, RunEnds, EndsOnDisk, Does, RunsCommand, RunsLine, RunsDiskLine};
 
-use crate::answers::{write_answer, write_open, write_refused, write_state};
+use crate::answers::{write_answer, write_open, write_state};
 use crate::exchange::{Waiting, next_line, send};
 use crate::judge::read_params;
 use crate::limits::answer_limits;
+use crate::refused::write_refused;
 use crate::script_line::{Command, read_command};
 use crate::sum::answer_sum;
 use arrayvec::ArrayVec;

@@ -6,7 +6,8 @@ ghost use Rattle.rep_streams.specs.Streams.{Notes};
 ghost use Rattle.rep_script.specs.Answering.{Tells};
 ghost use Rattle.rep_script.specs.Summing.{sum_line, TellsSum, TakesSum};
 
-use crate::answers::{write_line, write_refused};
+use crate::answers::write_line;
+use crate::refused::write_refused;
 use rep_disk::Disk;
 use rep_replica::Replica;
 use rep_streams::Sink;
