@@ -3,6 +3,10 @@ pub mod Blanks
 pub mod Given
 pub mod Telling
 pub mod Noting
+pub mod Saying
+pub mod Answered
+pub mod Handing
+pub mod Closing
 pub mod Ending
 pub mod Reaching
 pub mod Records

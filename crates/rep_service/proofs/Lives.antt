@@ -1,70 +1,31 @@
 -- Parts of a node's life, one after another.
-use Rattle.std.proofs.Common.{◌≡◌, ◌≢◌, ℕ, ◌⊎◌, inl, inr, List, [], ◌∷◌, ◌++◌, length, map, Option, None, Some, Result, Ok, Err, OnOk, refl, sym, ap, subst, ◌∙◌, arith}
+use Rattle.std.proofs.Common.{◌≡◌, ℕ, ◌⊎◌, inl, inr, List, [], ◌∷◌, ◌++◌, length, map, Option, None, Some, Result, Ok, Err, OnOk, refl, sym, ap, subst, ◌∙◌, arith}
 use Rattle.std.specs.Prelude.{IfSome}
 use Rattle.rep_types.specs.declared.key.Key.{Key}
 use Rattle.rep_types.specs.declared.item.Item.{Item}
 use Rattle.rep_types.specs.declared.judged.Judged.{Judged}
 use Rattle.rep_types.specs.declared.reply.Reply.{Reply}
 use Rattle.rep_types.specs.declared.refusal.Refusal.{Refusal}
-use Rattle.rep_types.specs.declared.refusal.Refusal.TheVariants.{OutOfMemory, DiskFault, Stopped, OutOfOrder, Backlogged, LogFull, NotDue, TooOld, NotYet, BadKey, Undefined, NotFormatted, Corrupt, TooSmall, BadParams, Malformed, TooManyReads, TooManyWrites, ValueTooLong, WrongCluster, Ahead, Closed, Exhausted, StreamFault}
 use Rattle.rep_disk.specs.declared.disk.Disk.{Ghosts}
 use Rattle.rep_log.specs.declared.phase.Phase.TheVariants.{Resting}
-use Rattle.rep_steps.specs.Nodes.{Node}
+use Rattle.rep_engine.specs.Engines.{gtid_of}
 use Rattle.rep_replica.specs.Replicas.{Replica, facts_of}
-use Rattle.rep_replica.specs.Holding.{Holds}
 use Rattle.rep_replica.specs.Asking.{IsAsked}
 use Rattle.rep_replica.specs.Reading.{IsRead}
-use Rattle.rep_requests.specs.Requests.{Requested, Nothing, Published, Stated, Read as ReadsKeys, Sum as SumAt, State, Limits, Counters, Donate, Refused, Broken}
+use Rattle.rep_requests.specs.Requests.{Requested, Nothing, Published, Stated, Read as ReadsKeys, Sum as SumAt, State as OwnState, Limits as OwnLimits, Counters as OwnCounters, Donate, Refused as Wrong, Broken}
 use Rattle.rep_sum.specs.declared.sum.Sum.{Sum}
 use Rattle.rep_sum.specs.Sums.{RowRead, AreGiven, IsRefusedAt, sum_refusal, Sums, IsSumAt}
+use Rattle.rep_script.specs.Answering.{Tells}
 use Rattle.rep_script.specs.Summing.{position_of}
-use Rattle.rep_catchup.specs.Donating.{ReadsAlone}
 use Rattle.rep_follow.specs.declared.counts.Counts.{Counts}
 use Rattle.rep_follow.specs.Counting.{HasCounters}
 use Rattle.rep_follow.specs.Committing.{item_of, Follows, Goes, TellsAll}
 use Rattle.rep_follow.specs.Joining.{PartsAreJoined, GoingIsJoined}
 use Rattle.rep_service.specs.Rows.{ReadsRows}
-use Rattle.rep_service.specs.Commanding.{TellsDonated, TellsTransfer, DoesAt}
-use Rattle.rep_service.specs.Living.{Lives}
-
--- a transfer that its device did not fail asked the device, and did nothing else
-pub is_asked : {D T : Type 0} (g : Ghosts D) (old new : Replica D) (r : Result T Refusal) → ReadsAlone g old new → (r ≢ Err DiskFault → new.engine.halted ≡ old.engine.halted) → ((n : Node) → Holds g n old → r ≢ Err DiskFault → Holds g n new) → r ≢ Err DiskFault → IsAsked g old new
-is_asked g old new r reads runs holds other = record {
-  stays_honest = reads.is_honest;
-  same = reads.same;
-  rest = reads.rest;
-  halts = inl (runs other);
-  still = λ n held same. holds n held other;
-}
-
-is_fault_or : (e : Refusal) → (e ≡ DiskFault) ⊎ (e ≢ DiskFault)
-is_fault_or DiskFault = inl refl
-is_fault_or Stopped = inr (λ is. cc)
-is_fault_or OutOfMemory = inr (λ is. cc)
-is_fault_or (OutOfOrder n) = inr (λ is. cc)
-is_fault_or Backlogged = inr (λ is. cc)
-is_fault_or LogFull = inr (λ is. cc)
-is_fault_or NotDue = inr (λ is. cc)
-is_fault_or (TooOld n) = inr (λ is. cc)
-is_fault_or (NotYet n) = inr (λ is. cc)
-is_fault_or BadKey = inr (λ is. cc)
-is_fault_or Undefined = inr (λ is. cc)
-is_fault_or NotFormatted = inr (λ is. cc)
-is_fault_or (Corrupt part) = inr (λ is. cc)
-is_fault_or (TooSmall n) = inr (λ is. cc)
-is_fault_or BadParams = inr (λ is. cc)
-is_fault_or (Malformed n) = inr (λ is. cc)
-is_fault_or TooManyReads = inr (λ is. cc)
-is_fault_or TooManyWrites = inr (λ is. cc)
-is_fault_or ValueTooLong = inr (λ is. cc)
-is_fault_or WrongCluster = inr (λ is. cc)
-is_fault_or (Ahead n) = inr (λ is. cc)
-is_fault_or Closed = inr (λ is. cc)
-is_fault_or Exhausted = inr (λ is. cc)
-is_fault_or StreamFault = inr (λ is. cc)
-
-error_same : {X : Type 0} (a b : Refusal) → ◌≡◌ {A = Result X Refusal} (Err a) (Err b) → a ≡ b
-error_same a b is = cc
+use Rattle.rep_service.specs.Saying.{Said, Rows, Summed, State, Limits, Counters, Donated, Writes, line_of, receipts_in, passed_in, answers_in, receipts_said}
+use Rattle.rep_service.specs.Commanding.{TellsRead, TellsSummed, TellsDonated, TellsTransfer, window_in, IsStateOf, IsLimitsOf, AreCountersOf, DoesAt}
+use Rattle.rep_service.specs.Living.{Lives, IsOfKind, AnswersTo}
+use Rattle.rep_service.proofs.Saying.{receipts_both, answers_both, none_both, given_said, none_passed, none_answered, writes_none, writes_as, writes_both, writes_receipts, One, one_said, one_refuses, one_own}
 
 pub on_all : {T : Type 0} {P : Type 0} (r : Result T Refusal) → P → OnOk r P
 on_all (Ok x) p = p
@@ -76,21 +37,30 @@ no_counts = record { items = 0; blocks = 0; checkpoints = 0; commit = 0; conflic
 have_none : HasCounters no_counts
 have_none = record { items = omega arith; blocks = omega arith; checkpoints = omega arith; commit = omega arith; conflict = omega arith; stale = omega arith; future = omega arith; badkey = omega arith; unreadable = omega arith }
 
-module _ {D : Type 0} (g : Ghosts D) where
-  -- behind what went on the replica stands where it led
-  pub follows_of : (old new : Replica D) (items : List Item) (receipts : List Reply) → Lives g old new items receipts (Ok tt) → Follows g old new items receipts
-  follows_of old new items receipts lives = by lives.last
-    where
-      by : (new ≡ lives.mid) ⊎ ((◌≡◌ {A = Result (Unit {0}) Refusal} (Ok tt) (Err DiskFault)) × ReadsAlone g lives.mid new) → Follows g old new items receipts
-      by (inl same) = subst (λ r. Follows g old r items receipts) (sym same) lives.follows
-      by (inr fault) = absurd (let never : ◌≡◌ {A = Result (Unit {0}) Refusal} (Ok tt) (Err DiskFault) = fault.0 in cc)
+-- Nothing was delivered, and no reply given.
+pub record Stays {D : Type 0} (g : Ghosts D) (old new : Replica D) : Type 0 where
+  pub follows : Follows g old new [] []
+  pub rests : (facts_of g old).phase ≡ Resting → (facts_of g new).phase ≡ Resting
 
-  pub lives_goes : (old new : Replica D) (items : List Item) (was now : Counts) (before after : Option (List ℕ)) (r : Result (Unit {0}) Refusal) (goes : Goes g old new items was now before after r) → Lives g old new items goes.receipts r
-  lives_goes old new items was now before after r goes = record { mid = new; follows = goes.follows; last = inl refl; rests = goes.rests }
+-- What was done at a line that asks for this: nothing was delivered, and one line at most is its answer.
+pub record Did {D : Type 0} (g : Ghosts D) (request : Requested) (old new : Replica D) (before after : Option (List ℕ)) (r : Result (Unit {0}) Refusal) : Type 0 where
+  pub said : List Said
+  pub lives : Lives g old new [] said before after r
+  pub none : passed_in said ≡ []
+  pub cut : (answers_in said ≡ []) ⊎ AnswersTo request (answers_in said)
+  pub all : OnOk r (AnswersTo request (answers_in said))
+
+module _ {D : Type 0} (g : Ghosts D) where
+  pub lives_goes : (old new : Replica D) (items : List Item) (was now : Counts) (before after : Option (List ℕ)) (r : Result (Unit {0}) Refusal) (goes : Goes g old new items was now before after r) → Lives g old new items (receipts_said goes.receipts) before after r
+  lives_goes old new items was now before after r goes = record {
+    follows = subst (Follows g old new items) (sym (given_said goes.receipts)) goes.follows;
+    written = writes_receipts goes.receipts before after r goes.written;
+    rests = goes.rests;
+  }
 
   -- it went on, whatever comes of the rest that changes nothing
-  pub lives_as : (old new : Replica D) (items : List Item) (receipts : List Reply) (r : Result (Unit {0}) Refusal) → Lives g old new items receipts (Ok tt) → Lives g old new items receipts r
-  lives_as old new items receipts r lives = record { mid = new; follows = follows_of old new items receipts lives; last = inl refl; rests = λ rests. on_all r (lives.rests rests) }
+  pub lives_as : (old new : Replica D) (items : List Item) (said : List Said) (before after : Option (List ℕ)) (r : Result (Unit {0}) Refusal) → Lives g old new items said before after (Ok tt) → Lives g old new items said before after r
+  lives_as old new items said before after r lives = record { follows = lives.follows; written = writes_as said before after r lives.written; rests = λ rests. on_all r (lives.rests rests) }
 
   nothing_judged : (js : List Judged) → map item_of js ≡ [] → js ≡ []
   nothing_judged [] is = refl
@@ -101,101 +71,165 @@ module _ {D : Type 0} (g : Ghosts D) where
   nothing_in (r ∷ rs) is = absurd (omega (arith, is))
 
   -- where nothing waits and nothing is delivered, no reply is given
-  pub none_given : (old new : Replica D) (receipts : List Reply) → (facts_of g old).ahead ≡ [] → Follows g old new [] receipts → receipts ≡ []
+  none_given : (old new : Replica D) (receipts : List Reply) → (facts_of g old).ahead ≡ [] → Follows g old new [] receipts → receipts ≡ []
   none_given old new receipts none follows =
       let judged = nothing_judged follows.judged follows.are_items in
       let waited : (facts_of g old).ahead ++ follows.judged ≡ [] = ap (λ l. l ++ follows.judged) none ∙ judged in
       let few = ap (λ (l : List Judged). length l) waited in
       nothing_in receipts (omega (arith, follows.durable.within, few))
 
-  pub lives_quiet : (old new : Replica D) (receipts : List Reply) (r : Result (Unit {0}) Refusal) → (facts_of g old).ahead ≡ [] → Lives g old new [] receipts r → Lives g old new [] [] r
-  lives_quiet old new receipts r none lives = subst (λ rs. Lives g old new [] rs r) (none_given old lives.mid receipts none lives.follows) lives
+  pub lives_quiet : (old new : Replica D) (said : List Said) (before after : Option (List ℕ)) (r : Result (Unit {0}) Refusal) → (facts_of g old).ahead ≡ [] → Lives g old new [] said before after r → receipts_in said ≡ []
+  lives_quiet old new said before after r none lives = none_given old new (receipts_in said) none lives.follows
+
+  pub lives_stays : (old new : Replica D) (said : List Said) (before after : Option (List ℕ)) (r : Result (Unit {0}) Refusal) → Stays g old new → receipts_in said ≡ [] → Writes said before after r → Lives g old new [] said before after r
+  lives_stays old new said before after r stays still written = record { follows = subst (Follows g old new []) (sym still) stays.follows; written = written; rests = λ rests. on_all r (stays.rests rests) }
+
+  -- it stays as far as what was said has no receipt
+  pub stays_of : (old new : Replica D) (said : List Said) (before after : Option (List ℕ)) → receipts_in said ≡ [] → Lives g old new [] said before after (Ok tt) → Stays g old new
+  stays_of old new said before after still lives = record { follows = subst (Follows g old new []) still lives.follows; rests = lives.rests }
 
   module _ (parts : PartsAreJoined g) where
-    pub lives_none : (r : Replica D) (result : Result (Unit {0}) Refusal) → Lives g r r [] [] result
-    lives_none r result = record { mid = r; follows = parts.none r; last = inl refl; rests = λ rests. on_all result rests }
+    pub lives_none : (r : Replica D) (text : Option (List ℕ)) (result : Result (Unit {0}) Refusal) → Lives g r r [] [] text text result
+    lives_none r text result = record { follows = parts.none r; written = writes_none text result; rests = λ rests. on_all result rests }
 
-    pub lives_both : (old mid new : Replica D) (items more : List Item) (first then : List Reply) (r : Result (Unit {0}) Refusal) → Lives g old mid items first (Ok tt) → Lives g mid new more then r → Lives g old new (items ++ more) (first ++ then) r
-    lives_both old mid new items more first then r one two = record {
-      mid = two.mid;
-      follows = parts.both old mid two.mid items more first then (follows_of old mid items first one) two.follows;
-      last = two.last;
+    pub lives_both : (old mid new : Replica D) (items more : List Item) (first then : List Said) (before between after : Option (List ℕ)) (r : Result (Unit {0}) Refusal) → Lives g old mid items first before between (Ok tt) → Lives g mid new more then between after r
+        → Lives g old new (items ++ more) (first ++ then) before after r
+    lives_both old mid new items more first then before between after r one two = record {
+      follows = subst (Follows g old new (items ++ more)) (sym (receipts_both first then)) (parts.both old mid new items more (receipts_in first) (receipts_in then) one.follows two.follows);
+      written = writes_both first then before between after r one.written two.written;
       rests = λ rests. two.rests (one.rests rests);
     }
 
+    stays_none : (r : Replica D) → Stays g r r
+    stays_none r = record { follows = parts.none r; rests = λ rests. rests }
+
+    pub stays_both : (old mid new : Replica D) → Stays g old mid → Stays g mid new → Stays g old new
+    stays_both old mid new one two = record { follows = parts.both old mid new [] [] [] [] one.follows two.follows; rests = λ rests. two.rests (one.rests rests) }
+
     module _ (going : GoingIsJoined g) where
-      pub lives_asked : (old new : Replica D) → IsAsked g old new → Lives g old new [] [] (Ok tt)
-      lives_asked old new asked = record { mid = new; follows = parts.asked old new asked; last = inl refl; rests = (going.asked old new no_counts None have_none asked).rests }
+      pub stays_asked : (old new : Replica D) → IsAsked g old new → Stays g old new
+      stays_asked old new asked = record { follows = parts.asked old new asked; rests = (going.asked old new no_counts None have_none asked).rests }
 
-      lives_read : (old new : Replica D) (key : Key) (at : ℕ) (answer : Result (Option (List ℕ)) Refusal) → IsRead g old key at answer new → Lives g old new [] [] (Ok tt)
-      lives_read old new key at answer is = record { mid = new; follows = parts.read old new key at _ is.step; last = inl refl; rests = (going.read old new key at _ no_counts None have_none is.step).rests }
+      stays_read : (old new : Replica D) (key : Key) (at : ℕ) (answer : Result (Option (List ℕ)) Refusal) → IsRead g old key at answer new → Stays g old new
+      stays_read old new key at answer is = record { follows = parts.read old new key at _ is.step; rests = (going.read old new key at _ no_counts None have_none is.step).rests }
 
-      lives_given : (at : ℕ) (xs : List RowRead) (old new : Replica D) → AreGiven g at old xs new → Lives g old new [] [] (Ok tt)
-      lives_given at [] old new same = subst (λ r. Lives g old r [] [] (Ok tt)) (sym same) (lives_none old (Ok tt))
-      lives_given at (x ∷ xs) old new (mid, is, rest) = lives_both old mid new [] [] [] [] (Ok tt) (lives_read old mid x.0 at (Ok x.1) is) (lives_given at xs mid new rest)
+      stays_given : (at : ℕ) (xs : List RowRead) (old new : Replica D) → AreGiven g at old xs new → Stays g old new
+      stays_given at [] old new same = subst (λ r. Stays g old r) (sym same) (stays_none old)
+      stays_given at (x ∷ xs) old new (mid, is, rest) = stays_both old mid new (stays_read old mid x.0 at (Ok x.1) is) (stays_given at xs mid new rest)
 
-      lives_refused : (at : ℕ) (keys : List Key) (old new : Replica D) (e : Refusal) → IsRefusedAt g at keys old e new → Lives g old new [] [] (Ok tt)
-      lives_refused at keys old new e is = lives_both old is.mid new [] [] [] [] (Ok tt) (lives_given at is.rows old is.mid is.given) (lives_read is.mid new is.key at (Err e) is.refused)
+      stays_refused : (at : ℕ) (keys : List Key) (old new : Replica D) (e : Refusal) → IsRefusedAt g at keys old e new → Stays g old new
+      stays_refused at keys old new e is = stays_both old is.mid new (stays_given at is.rows old is.mid is.given) (stays_read is.mid new is.key at (Err e) is.refused)
 
-      lives_rows : (at : ℕ) (keys : List Key) (old new : Replica D) (rows : Result (List RowRead) Refusal) → ReadsRows g at keys old rows new → Lives g old new [] [] (Ok tt)
-      lives_rows at keys old new (Ok rows) reads = lives_given at rows old new reads.1
-      lives_rows at keys old new (Err e) reads = lives_refused at keys old new e reads
+      stays_rows : (at : ℕ) (keys : List Key) (old new : Replica D) (rows : Result (List RowRead) Refusal) → ReadsRows g at keys old rows new → Stays g old new
+      stays_rows at keys old new (Ok rows) reads = stays_given at rows old new reads.1
+      stays_rows at keys old new (Err e) reads = stays_refused at keys old new e reads
 
-      lives_sums : (at : ℕ) (old new : Replica D) (sum : Result Sum Refusal) → Sums g at old sum new → Lives g old new [] [] (Ok tt)
-      lives_sums at old new (Ok sum) sums = lives_given at sums.rows old new sums.given
-      lives_sums at old new (Err e) sums = lives_refused at _ old new e sums
+      stays_sums : (at : ℕ) (old new : Replica D) (sum : Result Sum Refusal) → Sums g at old sum new → Stays g old new
+      stays_sums at old new (Ok sum) sums = stays_given at sums.rows old new sums.given
+      stays_sums at old new (Err e) sums = stays_refused at _ old new e sums
 
-      lives_sum : (at : ℕ) (old new : Replica D) (sum : Result Sum Refusal) → IsSumAt g at old sum new → (o : Option Refusal) → sum_refusal (facts_of g old) at ≡ o → Lives g old new [] [] (Ok tt)
-      lives_sum at old new sum taken None is = lives_sums at old new sum (taken.sums is)
-      lives_sum at old new sum taken (Some e) is =
+      stays_sum : (at : ℕ) (old new : Replica D) (sum : Result Sum Refusal) → IsSumAt g at old sum new → (o : Option Refusal) → sum_refusal (facts_of g old) at ≡ o → Stays g old new
+      stays_sum at old new sum taken None is = stays_sums at old new sum (taken.sums is)
+      stays_sum at old new sum taken (Some e) is =
           let refused : (sum ≡ Err e) × (new ≡ old) = subst (λ o. IfSome o (λ f. (sum ≡ Err f) × (new ≡ old))) is taken.refused in
-          subst (λ r. Lives g old r [] [] (Ok tt)) (sym refused.1) (lives_none old (Ok tt))
+          subst (λ r. Stays g old r) (sym refused.1) (stays_none old)
 
-      -- what was done at a line: nothing was delivered
-      abbrev Did : Replica D → Replica D → Result (Unit {0}) Refusal → Type 0
-      Did old new r = (receipts : List Reply) × Lives g old new [] receipts r
+      -- ---- what was done at a line
 
-      still : (old new : Replica D) (r : Result (Unit {0}) Refusal) → new ≡ old → Did old new r
-      still old new r same = ([], subst (λ x. Lives g old x [] [] r) (sym same) (lives_none old r))
+      -- nothing
+      nothing : (request : Requested) (old new : Replica D) (before after : Option (List ℕ)) (r : Result (Unit {0}) Refusal) → AnswersTo request [] → (new ≡ old) × (after ≡ before) → Did g request old new before after r
+      nothing request old new before after r answers same = record {
+        said = [];
+        lives = subst (λ x. Lives g old x [] [] before after r) (sym same.0) (subst (λ x. Lives g old old [] [] before x r) (sym same.1) (lives_none old before r));
+        none = refl;
+        cut = inl refl;
+        all = on_all r answers;
+      }
 
-      asks : (old mid new : Replica D) (receipts : List Reply) (r : Result (Unit {0}) Refusal) → Lives g old mid [] receipts (Ok tt) → IsAsked g mid new → Did old new r
-      asks old mid new receipts r one asked = (receipts ++ [], lives_as old new [] (receipts ++ []) r (lives_both old mid new [] [] receipts [] (Ok tt) one (lives_asked mid new asked)))
-
-      fails : (old mid new : Replica D) (receipts : List Reply) (r : Result (Unit {0}) Refusal) → Lives g old mid [] receipts (Ok tt) → r ≡ Err DiskFault → ReadsAlone g mid new → Did old new r
-      fails old mid new receipts r one is reads = (
-        receipts,
-        record {
-          mid = mid;
-          follows = follows_of old mid [] receipts one;
-          last = inr (is, reads);
-          rests = λ rests. subst (λ x. OnOk x ((facts_of g new).phase ≡ Resting)) (sym is) tt;
-        },
-      )
-
-      donates : (old mid new : Replica D) (receipts : List Reply) (before after : Option (List ℕ)) (r : Result (Unit {0}) Refusal) → Lives g old mid [] receipts (Ok tt) → ReadsAlone g mid new
-          → (donated : Result ℕ Refusal) → (donated ≢ Err DiskFault → IsAsked g mid new) → TellsDonated donated before after r → Did old new r
-      donates old mid new receipts before after r one reads (Ok last) asked told = asks old mid new receipts r one (asked (λ is. cc))
-      donates old mid new receipts before after r one reads (Err e) asked told = by (is_fault_or e)
+      -- one line was said, and nothing else done
+      says : (request : Requested) (IsOne : Said → Type 0) (old new : Replica D) (before after : Option (List ℕ)) (r : Result (Unit {0}) Refusal) → ((said : List Said) → ((one : Said) × (said ≡ one ∷ []) × IsOne one) → AnswersTo request said)
+          → Stays g old new → One IsOne before after r → Did g request old new before after r
+      says request IsOne old new before after r to stays one = record {
+        said = one.said;
+        lives = lives_stays old new one.said before after r stays one.still one.writes;
+        none = one.none;
+        cut = by one.cut;
+        all = on r one.all;
+      }
         where
-          by : (e ≡ DiskFault) ⊎ (e ≢ DiskFault) → Did old new r
-          by (inl is) = fails old mid new receipts r one (let faulted = subst (λ f. TellsDonated (Err f) before after r) is told in faulted.0) reads
-          by (inr other) = asks old mid new receipts r one (asked (λ is. other (error_same e DiskFault is)))
+          by : (answers_in one.said ≡ []) ⊎ ((x : Said) × (answers_in one.said ≡ x ∷ []) × IsOne x) → (answers_in one.said ≡ []) ⊎ AnswersTo request (answers_in one.said)
+          by (inl none) = inl none
+          by (inr is) = inr (to (answers_in one.said) is)
 
-      transfers : (old mid new : Replica D) (was now : Counts) (before between after : Option (List ℕ)) (committed r : Result (Unit {0}) Refusal) → TellsAll g old mid was now before between committed → TellsTransfer g mid new committed between after r → Did old new r
-      transfers old mid new was now before between after (Ok x) r tells (reads, (donated, asked, told)) =
-          donates old mid new tells.goes.receipts between after r (lives_goes old mid [] was now before between (Ok tt) tells.goes) reads donated asked told
-      transfers old mid new was now before between after (Err e) r tells (is, same, kept) =
-          (tells.goes.receipts, subst (λ x. Lives g old x [] tells.goes.receipts r) (sym same) (subst (λ x. Lives g old mid [] tells.goes.receipts x) (sym is) (lives_goes old mid [] was now before between (Err e) tells.goes)))
+          on : (r : Result (Unit {0}) Refusal) → OnOk r ((x : Said) × (answers_in one.said ≡ x ∷ []) × IsOne x) → OnOk r (AnswersTo request (answers_in one.said))
+          on (Ok x) is = to (answers_in one.said) is
+          on (Err e) is = tt
 
-      pub did : (said : Requested) (old new : Replica D) (was now : Counts) (before after : Option (List ℕ)) (r : Result (Unit {0}) Refusal) → DoesAt g said old new was now before after r → Did old new r
-      did Nothing old new was now before after r does = still old new r does.1.0
-      did (Published n i) old new was now before after r does = still old new r does.1.0
-      did (Stated i) old new was now before after r does = still old new r does.1.0
-      did (ReadsKeys keys) old new was now before after r does = ([], lives_as old new [] [] r (lives_rows _ keys old new does.1.rows does.1.reads))
-      did (SumAt at) old new was now before after r does = ([], lives_as old new [] [] r (lives_sum (position_of g old at) old new does.1.sum does.1.taken _ refl))
-      did State old new was now before after r does = still old new r does.1
-      did Limits old new was now before after r does = still old new r does.1
-      did Counters old new was now before after r does = still old new r does.1
-      did (Donate have out) old new was now before after r does = transfers old does.mid new was now before does.between after does.committed r does.tells does.transfer
-      did (Refused e) old new was now before after r does = still old new r does.1
-      did Broken old new was now before after r does = still old new r does.1.0
+      same_stays : (old new : Replica D) → new ≡ old → Stays g old new
+      same_stays old new same = subst (λ x. Stays g old x) (sym same) (stays_none old)
+
+      rows_one : (keys : List Key) (at : ℕ) (old new : Replica D) (before after : Option (List ℕ)) (r : Result (Unit {0}) Refusal) (rows : Result (List RowRead) Refusal) → ReadsRows g at keys old rows new → TellsRead at rows before after r → One (IsOfKind (ReadsKeys keys)) before after r
+      rows_one keys at old new before after r (Ok rows) reads told = one_said (IsOfKind (ReadsKeys keys)) (Rows at rows) before after r refl refl refl reads.0 told.0 told.1
+      rows_one keys at old new before after r (Err e) reads told = one_refuses (IsOfKind (ReadsKeys keys)) e before after r (λ f. tt) told
+
+      sum_one : (asked : Option ℕ) (before after : Option (List ℕ)) (r : Result (Unit {0}) Refusal) (sum : Result Sum Refusal) → TellsSummed sum before after r → One (IsOfKind (SumAt asked)) before after r
+      sum_one asked before after r (Ok sum) told = one_said (IsOfKind (SumAt asked)) (Summed sum) before after r refl refl refl tt told.0 told.1
+      sum_one asked before after r (Err e) told = one_refuses (IsOfKind (SumAt asked)) e before after r (λ f. tt) told
+
+      donated_one : (have out : List ℕ) (before after : Option (List ℕ)) (r : Result (Unit {0}) Refusal) (donated : Result ℕ Refusal) → TellsDonated donated before after r → One (IsOfKind (Donate have out)) before after r
+      donated_one have out before after r (Ok last) told = one_said (IsOfKind (Donate have out)) (Donated last) before after r refl refl refl tt told.0 told.1
+      donated_one have out before after r (Err e) told = one_refuses (IsOfKind (Donate have out)) e before after r (λ f. tt) told
+
+      -- behind receipts
+      behind_receipts : (request : Requested) (old mid new : Replica D) (receipts : List Reply) (before between after : Option (List ℕ)) (r : Result (Unit {0}) Refusal) → Lives g old mid [] (receipts_said receipts) before between (Ok tt) → Did g request mid new between after r
+          → Did g request old new before after r
+      behind_receipts request old mid new receipts before between after r one two =
+          let same : answers_in (receipts_said receipts ++ two.said) ≡ answers_in two.said = answers_both (receipts_said receipts) two.said ∙ ap (λ l. l ++ answers_in two.said) (none_answered receipts) in
+          record {
+            said = receipts_said receipts ++ two.said;
+            lives = lives_both old mid new [] [] (receipts_said receipts) two.said before between after r one two.lives;
+            none = none_both (receipts_said receipts) two.said (none_passed receipts) two.none;
+            cut = subst (λ l. (l ≡ []) ⊎ AnswersTo request l) (sym same) two.cut;
+            all = subst (λ l. OnOk r (AnswersTo request l)) (sym same) two.all;
+          }
+
+      transfers : (have out : List ℕ) (old mid new : Replica D) (was now : Counts) (before between after : Option (List ℕ)) (committed r : Result (Unit {0}) Refusal) → TellsAll g old mid was now before between committed → TellsTransfer g mid new committed between after r
+          → Did g (Donate have out) old new before after r
+      transfers have out old mid new was now before between after (Ok x) r tells (asked, (donated, told)) =
+          behind_receipts (Donate have out) old mid new tells.goes.receipts before between after r (lives_goes old mid [] was now before between (Ok tt) tells.goes)
+          (says (Donate have out) (IsOfKind (Donate have out)) mid new between after r (λ said is. is) (stays_asked mid new asked) (donated_one have out between after r donated told))
+      transfers have out old mid new was now before between after (Err e) r tells (is, same, kept) =
+          let lives = lives_goes old mid [] was now before between (Err e) tells.goes in
+          record {
+            said = receipts_said tells.goes.receipts;
+            lives = subst (λ x. Lives g old x [] (receipts_said tells.goes.receipts) before after r) (sym same) (subst (λ x. Lives g old mid [] (receipts_said tells.goes.receipts) before x r) (sym kept) (subst (λ x. Lives g old mid [] (receipts_said tells.goes.receipts) before between x) (sym is) lives));
+            none = none_passed tells.goes.receipts;
+            cut = inl (none_answered tells.goes.receipts);
+            all = subst (λ x. OnOk x (AnswersTo (Donate have out) (answers_in (receipts_said tells.goes.receipts)))) (sym is) tt;
+          }
+
+      pub did : (request : Requested) (old new : Replica D) (was now : Counts) (before after : Option (List ℕ)) (r : Result (Unit {0}) Refusal) → DoesAt g request old new was now before after r → Did g request old new before after r
+      did Nothing old new was now before after r does = nothing Nothing old new before after r refl does.1
+      did (Published n i) old new was now before after r does = nothing (Published n i) old new before after r refl does.1
+      did (Stated i) old new was now before after r does = nothing (Stated i) old new before after r refl does.1
+      did Broken old new was now before after r does = nothing Broken old new before after r refl does.1
+      did (ReadsKeys keys) old new was now before after r does =
+          says (ReadsKeys keys) (IsOfKind (ReadsKeys keys)) old new before after r (λ said is. is) (stays_rows (facts_of g old).durable keys old new does.1.rows does.1.reads) (rows_one keys (facts_of g old).durable old new before after r does.1.rows does.1.reads does.1.told)
+      did (SumAt at) old new was now before after r does =
+          says (SumAt at) (IsOfKind (SumAt at)) old new before after r (λ said is. is) (stays_sum (position_of g old at) old new does.1.sum does.1.taken _ refl) (sum_one at before after r does.1.sum does.1.told)
+      did OwnState old new was now before after r does =
+          says OwnState (IsOfKind OwnState) old new before after r (λ said is. is) (same_stays old new does.1.0)
+          (one_own (IsStateOf old) (IsOfKind OwnState) before after r (λ f. tt) does.1.1
+          (λ one is told fault. one_said (IsOfKind OwnState) (State (gtid_of old.engine) old.engine.checkpoint.base.position (window_in old).entries) before after r refl refl refl tt (subst (λ s. Tells (line_of s) before after r) is told) fault))
+      did OwnLimits old new was now before after r does =
+          says OwnLimits (IsOfKind OwnLimits) old new before after r (λ said is. is) (same_stays old new does.1.0)
+          (one_own (IsLimitsOf old) (IsOfKind OwnLimits) before after r (λ f. tt) does.1.1
+          (λ one is told fault. one_said (IsOfKind OwnLimits) (Limits (window_in old)) before after r refl refl refl tt (subst (λ s. Tells (line_of s) before after r) is told) fault))
+      did OwnCounters old new was now before after r does =
+          says OwnCounters (IsOfKind OwnCounters) old new before after r (λ said is. is) (same_stays old new does.1.0)
+          (one_own (AreCountersOf g old was) (IsOfKind OwnCounters) before after r (λ f. tt) does.1.1
+          (λ one is told fault. one_said (IsOfKind OwnCounters) (Counters is.0 was) before after r refl refl refl tt (subst (λ s. Tells (line_of s) before after r) is.2 told) fault))
+      did (Donate have out) old new was now before after r does = transfers have out old does.mid new was now before does.between after does.committed r does.tells does.transfer
+      did (Wrong e) old new was now before after r does =
+          says (Wrong e) (IsOfKind (Wrong e)) old new before after r (λ said is. is) (same_stays old new does.1.0)
+          (one_own (λ said. ⊥) (IsOfKind (Wrong e)) before after r (λ f. tt) does.1.1 (λ one never told fault. absurd never))

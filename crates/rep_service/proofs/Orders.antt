@@ -1,28 +1,28 @@
--- What was delivered of an order, from its first line to its end.
-use Rattle.std.proofs.Common.{◌≡◌, ◌≢◌, ℕ, ◌+◌, ◌-◌, ◌≤◌, Bool, true, false, ◌⊎◌, inl, inr, List, [], ◌∷◌, ◌++◌, length, take, drop, Option, Some, Result, Ok, Err, OnOk, refl, sym, ap, subst, ◌∙◌, append-nil, arith}
-use Rattle.std.specs.Io.KnownBytes.{Consumes}
-use Rattle.std.proofs.KnownBytes.{Consumes-nil}
-use Rattle.std.proofs.Math.Seq.{drop-append_seam}
+-- What was delivered of an order, from its first line to its end, and what was written of it.
+use Rattle.std.proofs.Common.{◌≡◌, ◌≢◌, ℕ, ◌+◌, ◌-◌, ◌≤◌, Bool, true, false, List, [], ◌++◌, length, take, drop, Option, Result, Ok, Err, OnOk, refl, sym, ap, subst, ◌∙◌, append-nil, take_all, arith}
+use Rattle.std.specs.Io.KnownBytes.{IsAtEnd}
+use Rattle.std.proofs.Math.Seq.{drop-append_seam, take-append_seam}
 use Rattle.std.proofs.lemmas.List.{drop_all}
 use Rattle.rep_types.specs.declared.item.Item.{Item}
 use Rattle.rep_types.specs.declared.reply.Reply.{Reply}
 use Rattle.rep_types.specs.declared.refusal.Refusal.{Refusal}
-use Rattle.rep_types.specs.declared.refusal.Refusal.TheVariants.{DiskFault}
-use Rattle.rep_types.specs.Gtids.{Gtid}
+use Rattle.rep_types.specs.declared.refusal.Refusal.TheVariants.{StreamFault}
 use Rattle.rep_disk.specs.declared.disk.Disk.{Ghosts}
-use Rattle.rep_steps.specs.Standings.{Standing}
 use Rattle.rep_replica.specs.Replicas.{Replica, facts_of}
-use Rattle.rep_catchup.specs.Donating.{ReadsAlone}
+use Rattle.rep_engine.specs.Engines.{gtid_of}
 use Rattle.rep_follow.specs.Committing.{Follows}
 use Rattle.rep_follow.specs.Joining.{PartsAreJoined}
-use Rattle.rep_follow.specs.Taking.{text_of, items_in}
-use Rattle.rep_service.specs.Opening.{SaysFirst, Begins, OpensOrder}
+use Rattle.rep_follow.specs.Taking.{items_in}
+use Rattle.rep_service.specs.Opening.{OpensOrder, at_line}
 use Rattle.rep_service.specs.Serving.{is_of_line}
-use Rattle.rep_service.specs.Living.{Lives, FollowsLines, PassesLines, FollowsOrder, FollowsText}
-use Rattle.rep_service.proofs.Lives.{on_all, lives_none, lives_both, lives_as}
+use Rattle.rep_service.specs.Saying.{Said, Writes, receipts_in, passed_in, receipts_said}
+use Rattle.rep_service.specs.Living.{Lives, FollowsLines, IsFrom, ArePassed, PassesLines, IsOfLog, passed_before, FollowsOrder, ClosesWell, FollowsText}
+use Rattle.rep_service.proofs.Saying.{receipts_both, passed_both, writes_both, writes_whole}
+use Rattle.rep_service.proofs.Lives.{on_all, lives_both}
 use Rattle.rep_service.proofs.Items.{items_both}
-use Rattle.rep_service.proofs.Following.{handed_both, on_both}
-use Rattle.rep_service.proofs.Passed.{passes_as}
+use Rattle.rep_service.proofs.Answered.{on_both, answered_as, answered_both}
+use Rattle.rep_service.proofs.Following.{handed_both}
+use Rattle.rep_service.proofs.Passed.{all_append, from_none, passes_as}
 
 -- the items behind those that were passed over
 items_behind : (position at next : ℕ) (lines more : List (List ℕ)) → at ≡ position + length (items_in (position + 1) lines) → next ≡ at + 1 → drop (at - position) (items_in (position + 1) (lines ++ more)) ≡ items_in next more
@@ -32,115 +32,166 @@ items_behind position at next lines more passed next_is =
     ap (λ (k : ℕ). drop k (items_in (position + 1) (lines ++ more))) count ∙ ap (drop (length (items_in (position + 1) lines))) (items_both (position + 1) lines more)
     ∙ drop-append_seam (items_in (position + 1) lines) (items_in ((position + 1) + length (items_in (position + 1) lines)) more) ∙ ap (λ (k : ℕ). items_in k more) behind
 
--- the lines of the opening
-pub record IsOpened (text behind : Option (List ℕ)) : Type 0 where
-  pub front : List (List ℕ)
-  pub handed : Consumes text behind (text_of front)
-
-opened_by : (s : Standing) (line left : List ℕ) (number : ℕ) (rest text behind before after : Option (List ℕ)) (position : ℕ) (front : List (List ℕ)) (said : Result Gtid Refusal) → SaysFirst number front left rest text behind said → Begins s line said before after (Ok position) → IsOpened text behind
-opened_by s line left number rest text behind before after position front (Ok gtid) says begins = record { front = front ++ says.line ∷ []; handed = says.handed }
-opened_by s line left number rest text behind before after position front (Err e) says begins = absurd (let never : ◌≡◌ {A = Result ℕ Refusal} (Ok position) (Err e) = begins.0 in cc)
-
-pub is_opened : (s : Standing) (line left : List ℕ) (number : ℕ) (rest text behind before after : Option (List ℕ)) (position : ℕ) → OpensOrder s line number left rest text behind before after (Ok position) → IsOpened text behind
-is_opened s line left number rest text behind before after position o = opened_by s line left _ rest text behind before after position o.finds.before o.said o.finds.says o.begins
-
 module _ {D : Type 0} (g : Ghosts D) where
+  abbrev Order : ℕ → Replica D → Replica D → Option (List ℕ) → Option (List ℕ) → Option (List ℕ) → Option (List ℕ) → List Said → Result (Unit {0}) Refusal → Type 0
+  Order = FollowsOrder g
+
+  abbrev base_of : Replica D → ℕ
+  base_of r = r.engine.checkpoint.base.position
+
+  -- lines whose items are durable already
+  abbrev Passes : ℕ → Replica D → Replica D → Option (List ℕ) → Option (List ℕ) → ℕ → Option (List ℕ) → Option (List ℕ) → Result (Unit {0}) Refusal → Type 0
+  Passes position old new text behind at before after r = PassesLines g (base_of old) (IsOfLog g old) position old new text behind at before after r
+
+  unclosed : (old new : Replica D) (items : List Item) (said : List Said) (before after : Option (List ℕ)) (r : Result (Unit {0}) Refusal) → Lives g old new items said before after r → Lives g old new items (said ++ []) before after r
+  unclosed old new items said before after r lives = subst (λ s. Lives g old new items s before after r) (sym (append-nil said)) lives
+
   -- it ended before what is durable was passed over
-  pub order_not : (position : ℕ) (old new : Replica D) (text behind : Option (List ℕ)) (at : ℕ) (e : Refusal) → PassesLines g position old new text behind at (Err e) → FollowsOrder g position old new text behind (Err e)
-  order_not position old new text behind at e passes = record { lines = passes.lines; items = []; receipts = []; handed = passes.handed; lives = passes.lives; most = 0; are = refl; all = tt }
-
-  pub order_stopped : (position : ℕ) (old new : Replica D) (text behind : Option (List ℕ)) (at : ℕ) (e : Refusal) → PassesLines g position old new text behind at (Ok tt) → FollowsOrder g position old new text behind (Err e)
-  order_stopped position old new text behind at e passes = order_not position old new text behind at e (passes_as g position old new text behind at (Err e) passes)
-
-  -- the text ended before
-  pub order_short : (position : ℕ) (old new : Replica D) (text behind : Option (List ℕ)) (at : ℕ) → PassesLines g position old new text behind at (Ok tt) → at ≤ (facts_of g old).durable → FollowsOrder g position old new text behind (Ok tt)
-  order_short position old new text behind at passes within = record {
+  pub order_not : (position : ℕ) (old new : Replica D) (text behind : Option (List ℕ)) (at : ℕ) (before after : Option (List ℕ)) (e : Refusal) → Passes position old new text behind at before after (Err e) → Order position old new text behind before after [] (Err e)
+  order_not position old new text behind at before after e passes = record {
     lines = passes.lines;
     items = [];
-    receipts = [];
+    said = passes.said;
     handed = passes.handed;
-    lives = passes.lives;
+    lives = unclosed old new [] passes.said before after (Err e) passes.lives;
     most = 0;
     are = refl;
-    all = sym (drop_all ((facts_of g old).durable - position) (items_in (position + 1) passes.lines) (omega (arith, passes.position_is, within)));
+    all = tt;
+    passed = passes.passed.most;
+    are_passed = passes.passed.are;
+    all_passed = tt;
+    from = passes.passed.from;
+    answers = passes.answers;
   }
 
-  -- another part ended it, behind all lines
-  pub order_ended : PartsAreJoined g → (position : ℕ) (old mid new : Replica D) (text behind : Option (List ℕ)) (receipts : List Reply) (r : Result (Unit {0}) Refusal) → FollowsOrder g position old mid text behind (Ok tt) → Lives g mid new [] receipts r → FollowsOrder g position old new text behind r
-  order_ended parts position old mid new text behind receipts r f lives = record {
-    lines = f.lines;
-    items = f.items;
-    receipts = f.receipts ++ receipts;
-    handed = f.handed;
-    lives = subst (λ (is : List Item). Lives g old new is (f.receipts ++ receipts) r) (append-nil f.items) (lives_both g parts old mid new f.items [] f.receipts receipts r f.lives lives);
-    most = f.most;
-    are = f.are;
-    all = on_all r f.all;
-  }
+  pub order_stopped : (position : ℕ) (old new : Replica D) (text behind : Option (List ℕ)) (at : ℕ) (before after : Option (List ℕ)) (e : Refusal) → Passes position old new text behind at before after (Ok tt) → Order position old new text behind before after [] (Err e)
+  order_stopped position old new text behind at before after e passes = order_not position old new text behind at before after e (passes_as g (base_of old) (IsOfLog g old) position old new text behind at before after (Err e) passes)
 
-  error_same : (a b : Refusal) → ◌≡◌ {A = Result (Unit {0}) Refusal} (Err a) (Err b) → a ≡ b
-  error_same a b is = cc
+  -- the text ended before
+  pub order_short : (position : ℕ) (old new : Replica D) (text behind : Option (List ℕ)) (at : ℕ) (before after : Option (List ℕ)) → Passes position old new text behind at before after (Ok tt) → at ≤ (facts_of g old).durable → Order position old new text behind before after [] (Ok tt)
+  order_short position old new text behind at before after passes within =
+      let items = items_in (position + 1) passes.lines in
+      let few : length items ≤ passed_before g position old = omega (arith, passes.position_is, within) in
+      record {
+        lines = passes.lines;
+        items = [];
+        said = passes.said;
+        handed = passes.handed;
+        lives = unclosed old new [] passes.said before after (Ok tt) passes.lives;
+        most = 0;
+        are = refl;
+        all = sym (drop_all (passed_before g position old) items few);
+        passed = passes.passed.most;
+        are_passed = passes.passed.are;
+        all_passed = subst (λ is. ArePassed (position + 1) is (passed_in passes.said)) (sym (take_all (passed_before g position old) items few)) passes.passed.all;
+        from = passes.passed.from;
+        answers = passes.answers;
+      }
 
   module _ (parts : PartsAreJoined g) where
-    pub order_follows : (position : ℕ) (old mid new : Replica D) (text between behind : Option (List ℕ)) (at next last : ℕ) (r : Result (Unit {0}) Refusal) → PassesLines g position old mid text between at (Ok tt) → at ≡ (facts_of g old).durable → next ≡ at + 1
-        → FollowsLines g next mid new between behind last r → FollowsOrder g position old new text behind r
-    order_follows position old mid new text between behind at next last r passes durable next_is follows =
+    -- another part ended it, behind all lines
+    pub order_ended : (position : ℕ) (old mid new : Replica D) (text behind before written after : Option (List ℕ)) (closing : List Said) (r : Result (Unit {0}) Refusal) → Order position old mid text behind before written [] (Ok tt) → Lives g mid new [] closing written after r
+        → Order position old new text behind before after closing r
+    order_ended position old mid new text behind before written after closing r f lives =
+        let both = lives_both g parts old mid new f.items [] (f.said ++ []) closing before written after r f.lives lives in
+        record {
+          lines = f.lines;
+          items = f.items;
+          said = f.said;
+          handed = f.handed;
+          lives = subst (λ (is : List Item). Lives g old new is (f.said ++ closing) before after r) (append-nil f.items) (subst (λ s. Lives g old new (f.items ++ []) (s ++ closing) before after r) (append-nil f.said) both);
+          most = f.most;
+          are = f.are;
+          all = on_all r f.all;
+          passed = f.passed;
+          are_passed = f.are_passed;
+          all_passed = on_all r f.all_passed;
+          from = f.from;
+          answers = answered_as f.lines f.said r f.answers;
+        }
+
+    pub order_follows : (position : ℕ) (old mid new : Replica D) (text between behind before written after : Option (List ℕ)) (at next last : ℕ) (r : Result (Unit {0}) Refusal) → Passes position old mid text between at before written (Ok tt) → at ≡ (facts_of g old).durable → next ≡ at + 1
+        → FollowsLines g next mid new between behind last written after r → Order position old new text behind before after [] r
+    order_follows position old mid new text between behind before written after at next last r passes durable next_is follows =
+        let items = items_in (position + 1) passes.lines in
+        let both = items_both (position + 1) passes.lines follows.lines in
         let rest = ap (λ (k : ℕ). drop (k - position) (items_in (position + 1) (passes.lines ++ follows.lines))) (sym durable) ∙ items_behind position at next passes.lines follows.lines passes.position_is next_is in
+        let count : passed_before g position old ≡ length items = omega (arith, passes.position_is, durable) in
+        let front : take (passed_before g position old) (items_in (position + 1) (passes.lines ++ follows.lines)) ≡ items =
+        ap (λ k. take k (items_in (position + 1) (passes.lines ++ follows.lines))) count ∙ ap (take (length items)) both ∙ take-append_seam items (items_in ((position + 1) + length items) follows.lines) in
+        let same : passed_in passes.said ≡ passed_in (passes.said ++ follows.takes.said) = sym (passed_both passes.said follows.takes.said ∙ ap (λ l. passed_in passes.said ++ l) follows.takes.none ∙ append-nil (passed_in passes.said)) in
+        let whole : ArePassed (position + 1) (take (passed_before g position old) (items_in (position + 1) (passes.lines ++ follows.lines))) (passed_in (passes.said ++ follows.takes.said)) =
+        subst (λ is. ArePassed (position + 1) is (passed_in (passes.said ++ follows.takes.said))) (sym front) (subst (ArePassed (position + 1) items) same passes.passed.all) in
         record {
           lines = passes.lines ++ follows.lines;
           items = follows.takes.items;
-          receipts = follows.takes.receipts;
+          said = passes.said ++ follows.takes.said;
           handed = handed_both text between behind passes.lines follows.lines passes.handed follows.handed;
-          lives = lives_both g parts old mid new [] follows.takes.items [] follows.takes.receipts r passes.lives follows.takes.lives;
+          lives = unclosed old new follows.takes.items (passes.said ++ follows.takes.said) before after r (lives_both g parts old mid new [] follows.takes.items passes.said follows.takes.said before written after r passes.lives follows.takes.lives);
           most = follows.takes.most;
           are = follows.takes.are ∙ ap (take follows.takes.most) (sym rest);
           all = on_both r (λ (is : follows.takes.items ≡ items_in next follows.lines). is ∙ sym rest) follows.takes.all;
+          passed = passed_before g position old;
+          are_passed = whole;
+          all_passed = on_all r whole;
+          from = all_append (IsFrom (base_of old) (IsOfLog g old)) passes.said follows.takes.said passes.passed.from (from_none (base_of old) (IsOfLog g old) follows.takes.said follows.takes.none);
+          answers = answered_both passes.lines follows.lines passes.said follows.takes.said r passes.answers follows.takes.answers;
         }
 
     -- what came before a line that ended it was made durable then
-    order_closed : (position : ℕ) (old mid new : Replica D) (text behind : Option (List ℕ)) (receipts : List Reply) (e f : Refusal) → is_of_line e ≡ true → FollowsOrder g position old mid text behind (Err e) → Lives g mid new [] receipts (Err f)
-        → FollowsOrder g position old new text behind (Err f)
-    order_closed position old mid new text behind receipts e f of order lives = by order.lives.last
-      where
-        by : (mid ≡ order.lives.mid) ⊎ ((◌≡◌ {A = Result (Unit {0}) Refusal} (Err e) (Err DiskFault)) × ReadsAlone g order.lives.mid mid) → FollowsOrder g position old new text behind (Err f)
-        by (inl same) =
-            let behind_it = subst (λ (r : Replica D). Lives g r new [] receipts (Err f)) same lives in
-            record {
-              lines = order.lines;
-              items = order.items;
-              receipts = order.receipts ++ receipts;
-              handed = order.handed;
-              lives = record {
-                mid = behind_it.mid;
-                follows = subst (λ (is : List Item). Follows g old behind_it.mid is (order.receipts ++ receipts)) (append-nil order.items)
-                    (parts.both old order.lives.mid behind_it.mid order.items [] order.receipts receipts order.lives.follows behind_it.follows);
-                last = behind_it.last;
-                rests = λ rests. tt;
-              };
-              most = order.most;
-              are = order.are;
-              all = tt;
-            }
-        by (inr fault) = absurd (let never : true ≡ false = sym of ∙ ap is_of_line (error_same e DiskFault fault.0) in cc)
+    order_closed : (position : ℕ) (old mid new : Replica D) (text behind before written after : Option (List ℕ)) (receipts : List Reply) (e f : Refusal) → is_of_line e ≡ true → Order position old mid text behind before written [] (Err e) → Lives g mid new [] (receipts_said receipts) written after (Err f)
+        → Order position old new text behind before after (receipts_said receipts) (Err f)
+    order_closed position old mid new text behind before written after receipts e f of order lives =
+        let own : e ≢ StreamFault = λ is. absurd (let never : true ≡ false = sym of ∙ ap is_of_line is in cc) in
+        let first = order.lives in
+        let whole = writes_whole (order.said ++ []) before written e own first.written in
+        let unit = append-nil order.said in
+        record {
+          lines = order.lines;
+          items = order.items;
+          said = order.said;
+          handed = order.handed;
+          lives = record {
+            follows = subst (λ s. Follows g old new order.items (receipts_in (s ++ receipts_said receipts))) unit
+                (subst (Follows g old new order.items) (sym (receipts_both (order.said ++ []) (receipts_said receipts)))
+                (subst (λ (is : List Item). Follows g old new is (receipts_in (order.said ++ []) ++ receipts_in (receipts_said receipts))) (append-nil order.items)
+                (parts.both old mid new order.items [] (receipts_in (order.said ++ [])) (receipts_in (receipts_said receipts)) first.follows lives.follows)));
+            written = subst (λ s. Writes (s ++ receipts_said receipts) before after (Err f)) unit (writes_both (order.said ++ []) (receipts_said receipts) before written after (Err f) whole lives.written);
+            rests = λ rests. tt;
+          };
+          most = order.most;
+          are = order.are;
+          all = tt;
+          passed = order.passed;
+          are_passed = order.are_passed;
+          all_passed = tt;
+          from = order.from;
+          answers = record { most = order.answers.most; are = order.answers.are; all = tt };
+        }
 
-    pub order_behind : (position : ℕ) (old mid new : Replica D) (text behind : Option (List ℕ)) (e f : Refusal) (b : Bool) → is_of_line e ≡ b → FollowsOrder g position old mid text behind (Err e)
-        → (is_of_line e ≡ true → (receipts : List Reply) × Lives g mid new [] receipts (Err f)) → (is_of_line e ≡ false → (f ≡ e) × (new ≡ mid)) → FollowsOrder g position old new text behind (Err f)
-    order_behind position old mid new text behind e f true of order line other = let closed = line of in order_closed position old mid new text behind closed.0 e f of order closed.1
-    order_behind position old mid new text behind e f false of order line other =
+    pub order_behind : (position : ℕ) (old mid new : Replica D) (text behind before written after : Option (List ℕ)) (e f : Refusal) (b : Bool) → is_of_line e ≡ b → Order position old mid text behind before written [] (Err e)
+        → (is_of_line e ≡ true → (receipts : List Reply) × Lives g mid new [] (receipts_said receipts) written after (Err f)) → (is_of_line e ≡ false → (f ≡ e) × (new ≡ mid) × (after ≡ written))
+        → (closing : List Said) × Order position old new text behind before after closing (Err f)
+    order_behind position old mid new text behind before written after e f true of order line other = let closed = line of in (receipts_said closed.0, order_closed position old mid new text behind before written after closed.0 e f of order closed.1)
+    order_behind position old mid new text behind before written after e f false of order line other =
         let same = other of in
-        subst (λ (r : Replica D). FollowsOrder g position old r text behind (Err f)) (sym same.1) (subst (λ (x : Refusal). FollowsOrder g position old mid text behind (Err x)) (sym same.0) order)
+        ([], subst (λ (r : Replica D). Order position old r text behind before after [] (Err f)) (sym same.1) (subst (λ (x : Refusal). Order position old mid text behind before after [] (Err x)) (sym same.0) (subst (λ w. Order position old mid text behind before w [] (Err e)) (sym same.2) order)))
 
-    -- no order was opened
-    pub text_not : (r : Replica D) (text : Option (List ℕ)) (e : Refusal) → FollowsText g r r text (Err e)
-    text_not r text e = record {
-      front = [];
-      opened = text;
-      handed = Consumes-nil text;
-      position = 0;
-      begins = omega arith;
-      left = text;
-      follows = record { lines = []; items = []; receipts = []; handed = Consumes-nil text; lives = lives_none g parts r (Err e); most = 0; are = refl; all = tt };
-    }
+  -- ---- a text
 
-  pub text_follows : (position : ℕ) (old new : Replica D) (text opened left : Option (List ℕ)) (r : Result (Unit {0}) Refusal) → IsOpened text opened → position ≤ (facts_of g old).durable → FollowsOrder g position old new opened left r → FollowsText g old new text r
-  text_follows position old new text opened left r is begins follows = record { front = is.front; opened = opened; handed = is.handed; position = position; begins = begins; left = left; follows = follows }
+  pub text_not : (old : Replica D) (text : Option (List ℕ)) (left : List ℕ) (rest opened before after : Option (List ℕ)) (e : Refusal) → OpensOrder (facts_of g old) (at_line (gtid_of old.engine) (base_of old)) 0 left rest text opened before after (Err e)
+      → FollowsText g old old text before after (Err e)
+  text_not old text left rest opened before after e opens = record { begun = Err e; left = left; rest = rest; opened = opened; told = after; opens = opens; follows = (refl, refl, refl) }
+
+  pub text_follows : (position : ℕ) (old new : Replica D) (text : Option (List ℕ)) (left : List ℕ) (rest opened behind before told after : Option (List ℕ)) (closing : List Said) (r : Result (Unit {0}) Refusal)
+      → OpensOrder (facts_of g old) (at_line (gtid_of old.engine) (base_of old)) 0 left rest text opened before told (Ok position) → position ≤ (facts_of g old).durable → Order position old new opened behind told after closing r → OnOk r (IsAtEnd behind × ClosesWell new closing)
+      → FollowsText g old new text before after r
+  text_follows position old new text left rest opened behind before told after closing r opens begins order ends = record {
+    begun = Ok position;
+    left = left;
+    rest = rest;
+    opened = opened;
+    told = told;
+    opens = opens;
+    follows = (begins, (behind, closing, order, ends));
+  }

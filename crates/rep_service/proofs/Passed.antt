@@ -1,21 +1,33 @@
 -- Lines whose items are durable already, one after another.
-use Rattle.std.proofs.Common.{◌≡◌, ℕ, ◌+◌, List, [], ◌∷◌, ◌++◌, length, Option, None, Some, Result, Ok, Err, OnOk, sym, ap, subst, length-append, arith}
-use Rattle.std.specs.Io.KnownBytes.{Keeps, Consumes}
-use Rattle.std.proofs.KnownBytes.{Consumes-nil, Consumes-trans, Consumes-kept}
+use Rattle.std.proofs.Common.{◌≡◌, ℕ, ◌+◌, ◌≤◌, List, [], ◌∷◌, ◌++◌, length, take, Option, None, Some, Result, Ok, Err, OnOk, OnErr, IfErr, refl, sym, ap, subst, ◌∙◌, ◌⊎◌, inl, inr, append-nil, append_assoc, length-append, arith}
+use Rattle.std.specs.Prelude.{Contains}
+use Rattle.std.proofs.lemmas.List.Elements.{Contains-append_right}
+use Rattle.std.specs.List.{AllByRecursion}
+use Rattle.std.proofs.Math.Seq.{take-append-add}
+use Rattle.std.specs.Io.KnownBytes.{Appends}
+use Rattle.std.proofs.KnownBytes.{Consumes-nil}
 use Rattle.rep_types.specs.declared.item.Item.{Item}
-use Rattle.rep_types.specs.declared.reply.Reply.{Reply}
+use Rattle.rep_types.specs.declared.judged.Judged.{Judged}
 use Rattle.rep_types.specs.declared.refusal.Refusal.{Refusal}
+use Rattle.rep_types.specs.declared.refusal.Refusal.TheVariants.{StreamFault}
 use Rattle.rep_disk.specs.declared.disk.Disk.{Ghosts}
 use Rattle.rep_replica.specs.Replicas.{Replica, facts_of}
+use Rattle.rep_steps.specs.Nodes.{Node}
+use Rattle.rep_engine.specs.Donating.{IsTailBlock}
+use Rattle.rep_replica.specs.Holding.{Holds}
 use Rattle.rep_replica.specs.Asking.{IsAsked}
 use Rattle.rep_follow.specs.Joining.{PartsAreJoined, GoingIsJoined}
-use Rattle.rep_follow.specs.Taking.{text_of, items_in}
-use Rattle.rep_service.specs.Passing.{Reaches}
-use Rattle.rep_service.specs.Living.{Lives, HandsLines, PassesLines}
-use Rattle.rep_service.proofs.Blanks.{text_push}
-use Rattle.rep_service.proofs.Lives.{on_all, follows_of, lives_none, lives_both, lives_as, lives_quiet, lives_asked}
+use Rattle.rep_follow.specs.Taking.{items_in}
+use Rattle.rep_service.specs.Lines.{old_line}
+use Rattle.rep_service.specs.Saying.{Said, Receipt, Logged, Old, Rows, Summed, State, Limits, Counters, Donated, Refused, Writes, line_of, receipt_in, receipts_in, passed_at, passed_in, answer_at}
+use Rattle.rep_service.specs.Passing.{TellsDurable}
+use Rattle.rep_service.specs.Living.{Lives, HandsLines, Reaches, IsPassed, ArePassed, IsFrom, Passed, PassesLines, IsOfLog}
+use Rattle.rep_service.proofs.Saying.{passed_both, still_both, writes_told}
+use Rattle.rep_service.proofs.Telling.{tells_line}
+use Rattle.rep_service.proofs.Lives.{on_all, stays_of, lives_stays, lives_none, lives_both, lives_as, stays_both, stays_asked}
 use Rattle.rep_service.proofs.Items.{items_both, lines_items}
-use Rattle.rep_service.proofs.Following.{handed_both, on_both}
+use Rattle.rep_service.proofs.Answered.{on_both, answered_whole, answered_as, answered_both, answered_more}
+use Rattle.rep_service.proofs.Following.{handed_both}
 
 rise_both : (first mid position : ℕ) (lines more : List (List ℕ)) → mid ≡ first + length (items_in (first + 1) lines) → position ≡ mid + length (items_in (mid + 1) more) → position ≡ first + length (items_in (first + 1) (lines ++ more))
 rise_both first mid position lines more one two =
@@ -25,72 +37,285 @@ rise_both first mid position lines more one two =
     let sum = length-append (items_in (first + 1) lines) (items_in ((first + 1) + length (items_in (first + 1) lines)) more) in
     omega (arith, one, two, whole, behind, sum)
 
+-- ---- what is said of items
+
+passed_append : (seqno : ℕ) (items more : List Item) (said then : List Said) → ArePassed seqno items said → ArePassed (seqno + length items) more then → ArePassed seqno (items ++ more) (said ++ then)
+passed_append seqno [] more said then none two =
+    let at : seqno + length {A = Item} [] ≡ seqno = omega arith in
+    subst (λ s. ArePassed seqno more (s ++ then)) (sym none) (subst (λ k. ArePassed k more then) at two)
+passed_append seqno (i ∷ items) more [] then one two = absurd one
+passed_append seqno (i ∷ items) more (s ∷ said) then one two =
+    let at : seqno + length (i ∷ items) ≡ (seqno + 1) + length items = omega arith in
+    (one.0, passed_append (seqno + 1) items more said then one.1 (subst (λ k. ArePassed k more then) at two))
+
+pub all_append : (P : Said → Type 0) (a b : List Said) → AllByRecursion P a → AllByRecursion P b → AllByRecursion P (a ++ b)
+all_append P [] b one two = two
+all_append P (s ∷ a) b one two = (one.0, all_append P a b one.1 two)
+
+all_weaker : (P Q : Said → Type 0) (a : List Said) → ((s : Said) → P s → Q s) → AllByRecursion P a → AllByRecursion Q a
+all_weaker P Q [] to all = tt
+all_weaker P Q (s ∷ a) to all = (to s all.0, all_weaker P Q a to all.1)
+
+from_weaker : (base base' : ℕ) (Has Has' : Judged → Type 0) → base ≤ base' → ((j : Judged) → Has j → Has' j) → (s : Said) → IsFrom base Has s → IsFrom base' Has' s
+from_weaker base base' Has Has' more to (Old n) is = omega (arith, more, is)
+from_weaker base base' Has Has' more to (Logged j) is = to j is
+from_weaker base base' Has Has' more to (Receipt r) is = tt
+from_weaker base base' Has Has' more to (Rows at rows) is = tt
+from_weaker base base' Has Has' more to (Summed sum) is = tt
+from_weaker base base' Has Has' more to (State gtid b window) is = tt
+from_weaker base base' Has Has' more to (Limits window) is = tt
+from_weaker base base' Has Has' more to (Counters level counts) is = tt
+from_weaker base base' Has Has' more to (Donated last) is = tt
+from_weaker base base' Has Has' more to (Refused e) is = tt
+
+-- what is said of no item is from anywhere
+pub from_none : (base : ℕ) (Has : Judged → Type 0) (said : List Said) → passed_in said ≡ [] → AllByRecursion (IsFrom base Has) said
+from_none base Has [] none = tt
+from_none base Has (Old n ∷ said) none = absurd cc
+from_none base Has (Logged j ∷ said) none = absurd cc
+from_none base Has (Receipt r ∷ said) none = (tt, from_none base Has said none)
+from_none base Has (Rows at rows ∷ said) none = (tt, from_none base Has said none)
+from_none base Has (Summed sum ∷ said) none = (tt, from_none base Has said none)
+from_none base Has (State gtid b window ∷ said) none = (tt, from_none base Has said none)
+from_none base Has (Limits window ∷ said) none = (tt, from_none base Has said none)
+from_none base Has (Counters level counts ∷ said) none = (tt, from_none base Has said none)
+from_none base Has (Donated last ∷ said) none = (tt, from_none base Has said none)
+from_none base Has (Refused e ∷ said) none = (tt, from_none base Has said none)
+
+module _ (base : ℕ) (Has : Judged → Type 0) where
+  passed_as : (first : ℕ) (lines : List (List ℕ)) (said : List Said) (r : Result (Unit {0}) Refusal) → Passed base Has first lines said (Ok tt) → Passed base Has first lines said r
+  passed_as first lines said r p = record { most = p.most; are = p.are; all = on_all r p.all; from = p.from }
+
+  -- of none of them
+  passed_not : (first : ℕ) (lines : List (List ℕ)) (said : List Said) (e : Refusal) → passed_in said ≡ [] → Passed base Has first lines said (Err e)
+  passed_not first lines said e none = record { most = 0; are = none; all = tt; from = from_none base Has said none }
+
+  -- there is none among them
+  passed_none : (first : ℕ) (lines : List (List ℕ)) (said : List Said) (r : Result (Unit {0}) Refusal) → items_in (first + 1) lines ≡ [] → passed_in said ≡ [] → Passed base Has first lines said r
+  passed_none first lines said r items none = record { most = 0; are = none; all = on_all r (subst (λ is. ArePassed (first + 1) is (passed_in said)) (sym items) none); from = from_none base Has said none }
+
+  -- of one, which is the only one
+  passed_one : (first : ℕ) (lines : List (List ℕ)) (said : List Said) (one : Said) (i : Item) (r : Result (Unit {0}) Refusal) → items_in (first + 1) lines ≡ i ∷ [] → passed_in said ≡ [] → passed_at one ≡ one ∷ [] → IsPassed (first + 1) i one → IsFrom base Has one
+      → Passed base Has first lines (said ++ one ∷ []) r
+  passed_one first lines said one i r items none passes is from =
+      let here : passed_in (said ++ one ∷ []) ≡ one ∷ [] = passed_both said (one ∷ []) ∙ ap (λ l. l ++ passed_in (one ∷ [])) none ∙ ap (λ l. l ++ []) passes in
+      let whole : ArePassed (first + 1) (i ∷ []) (passed_in (said ++ one ∷ [])) = subst (ArePassed (first + 1) (i ∷ [])) (sym here) (is, refl) in
+      record {
+        most = 1;
+        are = subst (λ is. ArePassed (first + 1) (take 1 is) (passed_in (said ++ one ∷ []))) (sym items) whole;
+        all = on_all r (subst (λ is. ArePassed (first + 1) is (passed_in (said ++ one ∷ []))) (sym items) whole);
+        from = all_append (IsFrom base Has) said (one ∷ []) (from_none base Has said none) (from, tt);
+      }
+
+  passed_join : (first mid : ℕ) (lines more : List (List ℕ)) (said then : List Said) (r : Result (Unit {0}) Refusal) → mid ≡ first + length (items_in (first + 1) lines) → Passed base Has first lines said (Ok tt) → Passed base Has mid more then r → Passed base Has first (lines ++ more) (said ++ then) r
+  passed_join first mid lines more said then r at one two =
+      let items = items_in (first + 1) lines in
+      let behind : mid + 1 ≡ (first + 1) + length items = omega (arith, at) in
+      let both = items_both (first + 1) lines more in
+      let next : List Item = items_in ((first + 1) + length items) more in
+      let same = passed_both said then in
+      record {
+        most = length items + two.most;
+        are = subst (λ is. ArePassed (first + 1) is (passed_in (said ++ then))) (sym (ap (take (length items + two.most)) both ∙ take-append-add items next two.most))
+            (subst (ArePassed (first + 1) (items ++ take two.most next)) (sym same) (passed_append (first + 1) items (take two.most next) (passed_in said) (passed_in then) one.all (subst (λ k. ArePassed k (take two.most (items_in k more)) (passed_in then)) behind two.are)));
+        all = on_both r (λ are. subst (λ is. ArePassed (first + 1) is (passed_in (said ++ then))) (sym both)
+            (subst (ArePassed (first + 1) (items ++ next)) (sym same) (passed_append (first + 1) items next (passed_in said) (passed_in then) one.all (subst (λ k. ArePassed k (items_in k more) (passed_in then)) behind are)))) two.all;
+        from = all_append (IsFrom base Has) said then one.from two.from;
+      }
+
+pub passed_weaker : (base base' : ℕ) (Has Has' : Judged → Type 0) → base ≤ base' → ((j : Judged) → Has j → Has' j) → (first : ℕ) (lines : List (List ℕ)) (said : List Said) (r : Result (Unit {0}) Refusal) → Passed base Has first lines said r → Passed base' Has' first lines said r
+passed_weaker base base' Has Has' more to first lines said r p = record { most = p.most; are = p.are; all = p.all; from = all_weaker (IsFrom base Has) (IsFrom base' Has') said (from_weaker base base' Has Has' more to) p.from }
+
+-- ---- what is written of one item
+
+pub writes_old : (seqno : ℕ) (before after : Option (List ℕ)) (r : Result (Unit {0}) Refusal) → OnOk r (Appends before after (old_line seqno)) → OnErr r ((k : ℕ) × Appends before after (take k (old_line seqno))) → IfErr r (λ e. e ≡ StreamFault) → Writes (Old seqno ∷ []) before after r
+writes_old seqno before after r ok cut fault = writes_told (Old seqno) before after r (tells_line (old_line seqno) before after r ok cut fault) fault
+
+pub writes_durable : (j : Judged) (before after : Option (List ℕ)) (r : Result (Unit {0}) Refusal) → TellsDurable j before after r → Writes (Logged j ∷ []) before after r
+writes_durable j before after (Ok x) told = writes_told (Logged j) before after (Ok x) told tt
+writes_durable j before after (Err e) told = (told.1.0, subst (λ l. Appends before after (take told.1.0 l)) (sym (append-nil (line_of (Logged j)))) told.1.1, λ own. absurd (own told.0))
+
 module _ {D : Type 0} (g : Ghosts D) where
   -- nothing was delivered, and no reply given: as much is durable
-  pub durable_kept : (old new : Replica D) → Lives g old new [] [] (Ok tt) → (facts_of g new).durable ≡ (facts_of g old).durable
-  durable_kept old new lives = let follows = follows_of g old new [] [] lives in omega (arith, follows.durable.durable)
+  pub durable_kept : (old new : Replica D) (said : List Said) (before after : Option (List ℕ)) → receipts_in said ≡ [] → Lives g old new [] said before after (Ok tt) → (facts_of g new).durable ≡ (facts_of g old).durable
+  durable_kept old new said before after still lives = let stays = stays_of g old new said before after still lives in omega (arith, stays.follows.durable.durable)
 
-  pub hands_as : (old new : Replica D) (text behind : Option (List ℕ)) (r : Result (Unit {0}) Refusal) → HandsLines g old new text behind (Ok tt) → HandsLines g old new text behind r
-  hands_as old new text behind r hands = record { lines = hands.lines; handed = hands.handed; lives = lives_as g old new [] [] r hands.lives }
-
-  pub hands_kept : (old new : Replica D) (text mid behind : Option (List ℕ)) (r : Result (Unit {0}) Refusal) → HandsLines g old new text mid (Ok tt) → Keeps mid behind → HandsLines g old new text behind r
-  hands_kept old new text mid behind r hands kept = record { lines = hands.lines; handed = Consumes-kept text mid behind (text_of hands.lines) hands.handed kept; lives = lives_as g old new [] [] r hands.lives }
-
-  pub passes_as : (first : ℕ) (old new : Replica D) (text behind : Option (List ℕ)) (position : ℕ) (r : Result (Unit {0}) Refusal) → PassesLines g first old new text behind position (Ok tt) → PassesLines g first old new text behind position r
-  passes_as first old new text behind position r passes = record { lines = passes.lines; handed = passes.handed; lives = lives_as g old new [] [] r passes.lives; position_is = on_all r passes.position_is }
-
-  -- the next item was reached, and passed over where it goes on
-  pub passes_reached : (first : ℕ) (left : List ℕ) (rest : Option (List ℕ)) (old new : Replica D) (text behind : Option (List ℕ)) (i : Item) (position : ℕ) (r : Result (Unit {0}) Refusal) → Reaches (first + 1) left rest text behind (Some i) → HandsLines g old new text behind (Ok tt)
-      → OnOk r (position ≡ first + 1) → PassesLines g first old new text behind position r
-  passes_reached first left rest old new text behind i position r reaches hands at = record {
-    lines = reaches.lines;
-    handed = reaches.handed;
-    lives = lives_as g old new [] [] r hands.lives;
-    position_is = on_both r (λ (is : position ≡ first + 1). (let one = ap (λ (l : List Item). length l) (lines_items (first + 1) reaches.lines (i ∷ []) reaches.are) in omega (arith, is, one))) at;
-  }
-
-  -- there is none
-  pub passes_ended : (first : ℕ) (left : List ℕ) (rest : Option (List ℕ)) (old new : Replica D) (text behind : Option (List ℕ)) → Reaches (first + 1) left rest text behind None → HandsLines g old new text behind (Ok tt) → PassesLines g first old new text behind first (Ok tt)
-  passes_ended first left rest old new text behind reaches hands = record {
-    lines = reaches.lines;
-    handed = reaches.handed;
-    lives = hands.lives;
-    position_is = let none = ap (λ (l : List Item). length l) (lines_items (first + 1) reaches.lines [] reaches.are) in omega (arith, none);
-  }
-
-  -- it ended before
-  pub passes_not : (first : ℕ) (old new : Replica D) (text behind : Option (List ℕ)) (position : ℕ) (e : Refusal) → HandsLines g old new text behind (Err e) → PassesLines g first old new text behind position (Err e)
-  passes_not first old new text behind position e hands = record { lines = hands.lines; handed = hands.handed; lives = hands.lives; position_is = tt }
-
-  module _ (parts : PartsAreJoined g) where
-    pub hands_none : (r : Replica D) (text : Option (List ℕ)) → HandsLines g r r text text (Ok tt)
-    hands_none r text = record { lines = []; handed = Consumes-nil text; lives = lives_none g parts r (Ok tt) }
-
-    -- one more line, at which nothing is delivered
-    pub hands_more : (old between new : Replica D) (text mid behind : Option (List ℕ)) (line : List ℕ) (receipts : List Reply) (r : Result (Unit {0}) Refusal) → HandsLines g old between text mid (Ok tt) → Consumes mid behind (line ++ 10 ∷ []) → (facts_of g between).ahead ≡ []
-        → Lives g between new [] receipts r → HandsLines g old new text behind r
-    hands_more old between new text mid behind line receipts r hands handed none lives = record {
-      lines = hands.lines ++ line ∷ [];
-      handed = subst (Consumes text behind) (sym (text_push hands.lines line)) (Consumes-trans text mid behind (text_of hands.lines) (line ++ 10 ∷ []) hands.handed handed);
-      lives = lives_both g parts old between new [] [] [] [] r hands.lives (lives_quiet g between new receipts r none lives);
-    }
-
-    pub passes_none : (first : ℕ) (r : Replica D) (text : Option (List ℕ)) (result : Result (Unit {0}) Refusal) → PassesLines g first r r text text first result
-    passes_none first r text result = record { lines = []; handed = Consumes-nil text; lives = lives_none g parts r result; position_is = on_all result (omega arith) }
-
-    pub passes_both : (first mid position : ℕ) (old between new : Replica D) (text middle behind : Option (List ℕ)) (r : Result (Unit {0}) Refusal) → PassesLines g first old between text middle mid (Ok tt) → PassesLines g mid between new middle behind position r → PassesLines g first old new text behind position r
-    passes_both first mid position old between new text middle behind r one two = record {
-      lines = one.lines ++ two.lines;
-      handed = handed_both text middle behind one.lines two.lines one.handed two.handed;
-      lives = lives_both g parts old between new [] [] [] [] r one.lives two.lives;
-      position_is = on_both r (rise_both first mid position one.lines two.lines one.position_is) two.position_is;
-    }
-
-    -- the device is asked behind it
-    pub passes_asked : GoingIsJoined g → (first : ℕ) (old mid new : Replica D) (text behind : Option (List ℕ)) (position : ℕ) (r : Result (Unit {0}) Refusal) → PassesLines g first old mid text behind position (Ok tt) → IsAsked g mid new → PassesLines g first old new text behind position r
-    passes_asked going first old mid new text behind position r passes asked = record {
+  module _ (base : ℕ) (Has : Judged → Type 0) where
+    pub passes_as : (first : ℕ) (old new : Replica D) (text behind : Option (List ℕ)) (position : ℕ) (before after : Option (List ℕ)) (r : Result (Unit {0}) Refusal) → PassesLines g base Has first old new text behind position before after (Ok tt) → PassesLines g base Has first old new text behind position before after r
+    passes_as first old new text behind position before after r passes = record {
       lines = passes.lines;
       handed = passes.handed;
-      lives = lives_as g old new [] [] r (lives_both g parts old mid new [] [] [] [] (Ok tt) passes.lives (lives_asked g parts going mid new asked));
+      said = passes.said;
+      lives = lives_as g old new [] passes.said before after r passes.lives;
+      still = passes.still;
       position_is = on_all r passes.position_is;
+      passed = passed_as base Has first passes.lines passes.said r passes.passed;
+      answers = answered_as passes.lines passes.said r passes.answers;
     }
+
+    -- there is no item more
+    pub passes_ended : (first : ℕ) (left : List ℕ) (rest : Option (List ℕ)) (old new : Replica D) (text behind before after : Option (List ℕ)) → Reaches g (first + 1) old new left rest text behind before after None → PassesLines g base Has first old new text behind first before after (Ok tt)
+    passes_ended first left rest old new text behind before after reaches =
+        let hands = reaches.hands in
+        let none = lines_items (first + 1) hands.lines [] reaches.are in
+        record {
+          lines = hands.lines;
+          handed = hands.handed;
+          said = hands.said;
+          lives = hands.lives;
+          still = hands.still;
+          position_is = let count = ap (λ (l : List Item). length l) none in omega (arith, count);
+          passed = passed_none base Has first hands.lines hands.said (Ok tt) none hands.none;
+          answers = hands.answers;
+        }
+
+    -- it ended before
+    pub passes_not : (first : ℕ) (old new : Replica D) (text behind : Option (List ℕ)) (position : ℕ) (before after : Option (List ℕ)) (e : Refusal) → HandsLines g old new text behind before after (Err e) → PassesLines g base Has first old new text behind position before after (Err e)
+    passes_not first old new text behind position before after e hands = record {
+      lines = hands.lines;
+      handed = hands.handed;
+      said = hands.said;
+      lives = hands.lives;
+      still = hands.still;
+      position_is = tt;
+      passed = passed_not base Has first hands.lines hands.said e hands.none;
+      answers = hands.answers;
+    }
+
+    -- the next item was reached, and nothing said of it
+    pub passes_unsaid : (first : ℕ) (left : List ℕ) (rest : Option (List ℕ)) (old new : Replica D) (text behind before after : Option (List ℕ)) (i : Item) (position : ℕ) (e : Refusal) → Reaches g (first + 1) old new left rest text behind before after (Some i) → PassesLines g base Has first old new text behind position before after (Err e)
+    passes_unsaid first left rest old new text behind before after i position e reaches =
+        let hands = reaches.hands in
+        record {
+          lines = hands.lines;
+          handed = hands.handed;
+          said = hands.said;
+          lives = lives_as g old new [] hands.said before after (Err e) hands.lives;
+          still = hands.still;
+          position_is = tt;
+          passed = passed_not base Has first hands.lines hands.said e hands.none;
+          answers = answered_as hands.lines hands.said (Err e) hands.answers;
+        }
+
+    module _ (parts : PartsAreJoined g) where
+      -- it was reached, and this was said of it
+      pub passes_reached : (first : ℕ) (left : List ℕ) (rest : Option (List ℕ)) (old new : Replica D) (text behind before mid after : Option (List ℕ)) (i : Item) (one : Said) (position : ℕ) (r : Result (Unit {0}) Refusal) → Reaches g (first + 1) old new left rest text behind before mid (Some i)
+          → receipt_in one ≡ [] → passed_at one ≡ one ∷ [] → answer_at one ≡ [] → IsPassed (first + 1) i one → IsFrom base Has one → Writes (one ∷ []) mid after r → OnOk r (position ≡ first + 1) → PassesLines g base Has first old new text behind position before after r
+      passes_reached first left rest old new text behind before mid after i one position r reaches no_receipt passes no_answer is from writes at =
+          let hands = reaches.hands in
+          let items = lines_items (first + 1) hands.lines (i ∷ []) reaches.are in
+          let still : receipts_in (one ∷ []) ≡ [] = ap (λ l. l ++ []) no_receipt in
+          let said : Lives g new new [] (one ∷ []) mid after r = lives_stays g new new (one ∷ []) mid after r (record { follows = parts.none new; rests = λ rests. rests }) still writes in
+          record {
+            lines = hands.lines;
+            handed = hands.handed;
+            said = hands.said ++ one ∷ [];
+            lives = lives_both g parts old new new [] [] hands.said (one ∷ []) before mid after r hands.lives said;
+            still = still_both hands.said (one ∷ []) hands.still still;
+            position_is = on_both r (λ (is : position ≡ first + 1). (let count = ap (λ (l : List Item). length l) items in omega (arith, is, count))) at;
+            passed = passed_one base Has first hands.lines hands.said one i r items hands.none passes is from;
+            answers = answered_more hands.lines hands.said (one ∷ []) r (ap (λ l. l ++ []) no_answer) (answered_as hands.lines hands.said r hands.answers);
+          }
+
+      pub passes_none : (first : ℕ) (r : Replica D) (text written : Option (List ℕ)) (result : Result (Unit {0}) Refusal) → PassesLines g base Has first r r text text first written written result
+      passes_none first r text written result = record {
+        lines = [];
+        handed = Consumes-nil text;
+        said = [];
+        lives = lives_none g parts r written result;
+        still = refl;
+        position_is = on_all result (omega arith);
+        passed = passed_none base Has first [] [] result refl refl;
+        answers = answered_whole [] [] result refl;
+      }
+
+      pub passes_both : (first mid position : ℕ) (old between new : Replica D) (text middle behind before written after : Option (List ℕ)) (r : Result (Unit {0}) Refusal) → PassesLines g base Has first old between text middle mid before written (Ok tt)
+          → PassesLines g base Has mid between new middle behind position written after r → PassesLines g base Has first old new text behind position before after r
+      passes_both first mid position old between new text middle behind before written after r one two = record {
+        lines = one.lines ++ two.lines;
+        handed = handed_both text middle behind one.lines two.lines one.handed two.handed;
+        said = one.said ++ two.said;
+        lives = lives_both g parts old between new [] [] one.said two.said before written after r one.lives two.lives;
+        still = still_both one.said two.said one.still two.still;
+        position_is = on_both r (rise_both first mid position one.lines two.lines one.position_is) two.position_is;
+        passed = passed_join base Has first mid one.lines two.lines one.said two.said r one.position_is one.passed two.passed;
+        answers = answered_both one.lines two.lines one.said two.said r one.answers two.answers;
+      }
+
+      -- the device is asked behind it
+      pub passes_asked : GoingIsJoined g → (first : ℕ) (old mid new : Replica D) (text behind : Option (List ℕ)) (position : ℕ) (before after : Option (List ℕ)) (r : Result (Unit {0}) Refusal) → PassesLines g base Has first old mid text behind position before after (Ok tt) → IsAsked g mid new
+          → PassesLines g base Has first old new text behind position before after r
+      passes_asked going first old mid new text behind position before after r passes asked =
+          let stays = stays_both g parts old mid new (stays_of g old mid passes.said before after passes.still passes.lives) (stays_asked g parts going mid new asked) in
+          record {
+            lines = passes.lines;
+            handed = passes.handed;
+            said = passes.said;
+            lives = lives_as g old new [] passes.said before after r (lives_stays g old new passes.said before after (Ok tt) stays passes.still passes.lives.written);
+            still = passes.still;
+            position_is = on_all r passes.position_is;
+            passed = passed_as base Has first passes.lines passes.said r passes.passed;
+            answers = answered_as passes.lines passes.said r passes.answers;
+          }
+
+  -- the records are of another kind, too
+  pub passes_weaker : (base base' : ℕ) (Has Has' : Judged → Type 0) → base ≤ base' → ((j : Judged) → Has j → Has' j) → (first : ℕ) (old new : Replica D) (text behind : Option (List ℕ)) (position : ℕ) (before after : Option (List ℕ)) (r : Result (Unit {0}) Refusal)
+      → PassesLines g base Has first old new text behind position before after r → PassesLines g base' Has' first old new text behind position before after r
+  passes_weaker base base' Has Has' more to first old new text behind position before after r passes = record {
+    lines = passes.lines;
+    handed = passes.handed;
+    said = passes.said;
+    lives = passes.lives;
+    still = passes.still;
+    position_is = passes.position_is;
+    passed = passed_weaker base base' Has Has' more to first passes.lines passes.said r passes.passed;
+    answers = passes.answers;
+  }
+
+  -- the log has no record that is told as it has it
+  pub passes_old_of : (base : ℕ) (Has : Judged → Type 0) (first : ℕ) (old new : Replica D) (text behind : Option (List ℕ)) (position : ℕ) (before after : Option (List ℕ)) (r : Result (Unit {0}) Refusal) → PassesLines g base (λ j. ⊥) first old new text behind position before after r
+      → PassesLines g base Has first old new text behind position before after r
+  passes_old_of base Has = passes_weaker base base (λ j. ⊥) Has (omega arith) (λ j never. absurd never)
+
+  -- ---- the records of a block
+
+  module _ (parts : PartsAreJoined g) where
+    -- the record's item was reached, and its receipt told
+    pub passes_record : (first : ℕ) (left : List ℕ) (rest : Option (List ℕ)) (old new : Replica D) (text behind before mid after : Option (List ℕ)) (j : Judged) (i : Item) (position : ℕ) (r : Result (Unit {0}) Refusal) → Reaches g (first + 1) old new left rest text behind before mid (Some i) → j.seqno ≡ first + 1
+        → i ≡ j.item → TellsDurable j mid after r → OnOk r (position ≡ first + 1) → PassesLines g 0 (λ k. k ≡ j) first old new text behind position before after r
+    passes_record first left rest old new text behind before mid after j i position r reaches seqno same told at =
+        passes_reached 0 (λ k. k ≡ j) parts first left rest old new text behind before mid after i (Logged j) position r reaches refl refl refl (seqno, sym same) refl (writes_durable j mid after r told) at
+
+    -- it is another item, or the writer failed
+    pub passes_record_not : (first : ℕ) (left : List ℕ) (rest : Option (List ℕ)) (old new : Replica D) (text behind before mid after : Option (List ℕ)) (j : Judged) (i : Item) (position : ℕ) (e : Refusal) → Reaches g (first + 1) old new left rest text behind before mid (Some i) → j.seqno ≡ first + 1
+        → (after ≡ mid) ⊎ ((i ≡ j.item) × TellsDurable j mid after (Err e)) → PassesLines g 0 (λ k. k ≡ j) first old new text behind position before after (Err e)
+    passes_record_not first left rest old new text behind before mid after j i position e reaches seqno (inl same) =
+        subst (λ w. PassesLines g 0 (λ k. k ≡ j) first old new text behind position before w (Err e)) (sym same) (passes_unsaid 0 (λ k. k ≡ j) first left rest old new text behind before mid i position e reaches)
+    passes_record_not first left rest old new text behind before mid after j i position e reaches seqno (inr told) = passes_record first left rest old new text behind before mid after j i position (Err e) reaches seqno told.0 told.1 tt
+
+    -- one more record of the block
+    pub passes_more : (all : List Judged) {j : Judged} {left now : List Judged} → ((front : List Judged) × (all ≡ front ++ now)) → now ≡ j ∷ left → (first mid position : ℕ) (old between new : Replica D) (text middle behind before written after : Option (List ℕ)) (r : Result (Unit {0}) Refusal)
+        → PassesLines g 0 (Contains all) first old between text middle mid before written (Ok tt) → PassesLines g 0 (λ k. k ≡ j) mid between new middle behind position written after r → PassesLines g 0 (Contains all) first old new text behind position before after r
+    passes_more all {j} {left} {now} split is first mid position old between new text middle behind before written after r one two =
+        let has : Contains all j = subst (λ l. Contains l j) (sym (split.1 ∙ ap (λ l. split.0 ++ l) is)) (Contains-append_right split.0 (j ∷ left) j (0, omega arith, refl)) in
+        passes_both 0 (Contains all) parts first mid position old between new text middle behind before written after r one
+        (passes_weaker 0 0 (λ k. k ≡ j) (Contains all) (omega arith) (λ k same. subst (Contains all) (sym same) has) mid between new middle behind position written after r two)
+
+    -- ---- the blocks
+
+    pub of_log_before : (old mid : Replica D) (said : List Said) (before after : Option (List ℕ)) → receipts_in said ≡ [] → Lives g old mid [] said before after (Ok tt) → (j : Judged) → IsOfLog g mid j → IsOfLog g old j
+    of_log_before old mid said before after still lives j is = record {
+      at = is.at;
+      follows = parts.both old mid is.at [] [] [] [] ((stays_of g old mid said before after still lives).follows) is.follows;
+      index = is.index;
+      records = is.records;
+      block = is.block;
+      has = is.has;
+    }
+
+  pub of_log : (old mid : Replica D) (said : List Said) (before after : Option (List ℕ)) → receipts_in said ≡ [] → Lives g old mid [] said before after (Ok tt) → (index : ℕ) {records : List Judged}
+      → ((n : Node) → Holds g n mid → IsTailBlock n mid.engine.layout (g.history mid.engine.disk) mid.engine.checkpoint.base mid.engine.log index records) → (j : Judged) → Contains records j → IsOfLog g old j
+  of_log old mid said before after still lives index {records} block j has = record { at = mid; follows = (stays_of g old mid said before after still lives).follows; index = index; records = records; block = block; has = has }
+
+pub split_more : {all now : List Judged} {j : Judged} {left : List Judged} → ((front : List Judged) × (all ≡ front ++ now)) → now ≡ j ∷ left → (front : List Judged) × (all ≡ front ++ left)
+split_more {all} {now} {j} {left} split is = (split.0 ++ j ∷ [], split.1 ∙ ap (λ l. split.0 ++ l) is ∙ sym (append_assoc split.0 (j ∷ []) left))

@@ -2,16 +2,21 @@
 use Rattle.std.proofs.Common.{◌≡◌, ℕ, ◌+◌, inl, inr, List, [], ◌∷◌, ◌++◌, length, Option, None, Some, Result, Ok, Err, refl, sym, ap, subst, ◌∙◌, length-append, arith}
 use Rattle.std.specs.Prelude.{MatchResult}
 use Rattle.std.specs.Io.KnownBytes.{Keeps, Consumes, IsAtEnd}
-use Rattle.std.proofs.KnownBytes.{Consumes-nil, Consumes-trans, Consumes-kept}
-use Rattle.std.proofs.lemmas.List.Concat.{flat_map-append}
+use Rattle.std.proofs.KnownBytes.{Consumes-nil, Consumes-trans}
 use Rattle.rep_types.specs.declared.item.Item.{Item}
 use Rattle.rep_types.specs.declared.refusal.Refusal.{Refusal}
+use Rattle.rep_disk.specs.declared.disk.Disk.{Ghosts}
 use Rattle.rep_lines.specs.Lines.{HasNoFeed}
 use Rattle.rep_requests.specs.Requests.{Requested, requested}
+use Rattle.rep_replica.specs.Replicas.{Replica, facts_of}
+use Rattle.rep_follow.specs.Joining.{PartsAreJoined}
 use Rattle.rep_follow.specs.Taking.{text_of}
 use Rattle.rep_service.specs.Commanding.{EndsNode, awaited, ComesOf}
-use Rattle.rep_service.specs.Passing.{IsAnswered, IsItem, AreLines, Reaches, Passes}
-use Rattle.rep_service.proofs.Blanks.{text_push}
+use Rattle.rep_service.specs.Passing.{IsAnswered, IsItem, AreLines, Passes}
+use Rattle.rep_service.specs.Living.{HandsLines, Reaches}
+use Rattle.rep_service.proofs.Following.{text_both}
+use Rattle.rep_service.proofs.Lives.{Did}
+use Rattle.rep_service.proofs.Handing.{hands_none, hands_kept, hands_more}
 
 -- one more line is answered
 answered_push : (next : ℕ) (lines : List (List ℕ)) (line : List ℕ) → AreLines next lines [] → IsAnswered next line → AreLines next (lines ++ line ∷ []) []
@@ -25,27 +30,29 @@ item_push next [] line i are is = inr (i, [], refl, is, refl)
 item_push next (l ∷ lines) line i (inl are) is = inl (are.0, item_push next lines line i are.1 is)
 item_push next (l ∷ lines) line i (inr are) is = absurd (let never : [] ≡ are.0 ∷ are.1 = are.2 in cc)
 
--- So many lines were answered.
-pub record Answers (next : ℕ) (text behind : Option (List ℕ)) : Type 0 where
-  pub lines : List (List ℕ)
-  pub are : AreLines next lines []
-  pub handed : Consumes text behind (text_of lines)
+-- So many lines were answered, none of which is an item.
+pub record Reaching {D : Type 0} (g : Ghosts D) (next : ℕ) (old new : Replica D) (text behind before after : Option (List ℕ)) : Type 0 where
+  pub hands : HandsLines g old new text behind before after (Ok tt)
+  pub are : AreLines next hands.lines []
 
-pub answers_none : (next : ℕ) (text : Option (List ℕ)) → Answers next text text
-answers_none next text = record { lines = []; are = refl; handed = Consumes-nil text }
+module _ {D : Type 0} (g : Ghosts D) (parts : PartsAreJoined g) (next : ℕ) where
+  pub reaching_none : (r : Replica D) (text written : Option (List ℕ)) → Reaching g next r r text text written written
+  reaching_none r text written = record { hands = hands_none g parts r text written; are = refl }
 
-module _ (next : ℕ) (text mid behind : Option (List ℕ)) (answers : Answers next text mid) where
-  handed_more : (line : List ℕ) → Consumes mid behind (line ++ 10 ∷ []) → Consumes text behind (text_of (answers.lines ++ line ∷ []))
-  handed_more line handed = subst (Consumes text behind) (sym (text_push answers.lines line)) (Consumes-trans text mid behind (text_of answers.lines) (line ++ 10 ∷ []) answers.handed handed)
+  module _ (old between : Replica D) (text mid behind before written : Option (List ℕ)) (so : Reaching g next old between text mid before written) where
+    module _ (new : Replica D) (after : Option (List ℕ)) (number : ℕ) (line : List ℕ) (request : Requested) (says : request ≡ requested number line) (handed : Consumes mid behind (line ++ 10 ∷ [])) (none : (facts_of g between).ahead ≡ []) (did : Did g request between new written after (Ok tt)) where
+      pub reaching_more : IsAnswered next line → Reaching g next old new text behind before after
+      reaching_more is = record { hands = hands_more g parts old between new text mid behind before written after number line request (Ok tt) says so.hands handed none did; are = answered_push next so.hands.lines line so.are is }
 
-  pub answers_more : (line : List ℕ) → Consumes mid behind (line ++ 10 ∷ []) → IsAnswered next line → Answers next text behind
-  answers_more line handed is = record { lines = answers.lines ++ line ∷ []; are = answered_push next answers.lines line answers.are is; handed = handed_more line handed }
+      pub reaches_item : (left : List ℕ) (rest : Option (List ℕ)) (i : Item) → IsItem next line i → Reaches g next old new left rest text behind before after (Some i)
+      reaches_item left rest i is = record {
+        hands = hands_more g parts old between new text mid behind before written after number line request (Ok tt) says so.hands handed none did;
+        are = item_push next so.hands.lines line i so.are is;
+        ended = λ none. absurd cc;
+      }
 
-  pub reaches_item : (left : List ℕ) (rest : Option (List ℕ)) (line : List ℕ) (i : Item) → Consumes mid behind (line ++ 10 ∷ []) → IsItem next line i → Reaches next left rest text behind (Some i)
-  reaches_item left rest line i handed is = record { lines = answers.lines ++ line ∷ []; are = item_push next answers.lines line i answers.are is; handed = handed_more line handed; ended = λ none. absurd cc }
-
-  pub reaches_end : (left : List ℕ) (rest : Option (List ℕ)) → HasNoFeed left → IsAtEnd rest → Keeps mid behind → Reaches next left rest text behind None
-  reaches_end left rest none ended kept = record { lines = answers.lines; are = answers.are; handed = Consumes-kept text mid behind (text_of answers.lines) answers.handed kept; ended = λ is. (none, ended) }
+    pub reaches_end : (left : List ℕ) (rest : Option (List ℕ)) → HasNoFeed left → IsAtEnd rest → Keeps mid behind → Reaches g next old between left rest text behind before written None
+    reaches_end left rest none ended kept = record { hands = hands_kept g old between text mid behind before written (Ok tt) so.hands kept; are = so.are; ended = λ is. (none, ended) }
 
 -- ---- what came of a line
 
@@ -80,9 +87,6 @@ lines_both next (l ∷ lines) more items rest (inr (i, others, is, item, lines_a
     let at : next + length items ≡ (next + 1) + length others = ap (λ (xs : List Item). next + length xs) is ∙ omega arith in
     inr (i, others ++ rest, ap (λ (xs : List Item). xs ++ rest) is, item, lines_both (next + 1) lines more others rest lines_are (subst (λ k. AreLines k more rest) at are))
 
-text_both : (lines more : List (List ℕ)) → text_of (lines ++ more) ≡ text_of lines ++ text_of more
-text_both lines more = flat_map-append (λ (l : List ℕ). l ++ 10 ∷ []) lines more
-
 pub passes_none : (first : ℕ) (text : Option (List ℕ)) → Passes first text text [] first
 passes_none first text = record { lines = []; are = refl; handed = Consumes-nil text; position_is = omega arith }
 
@@ -94,10 +98,11 @@ passes_both first mid text between behind items more position one two = record {
   position_is = omega (arith, one.position_is, two.position_is, length-append items more);
 }
 
--- the next item was passed over
-pub passes_item : (first : ℕ) (left : List ℕ) (rest text behind : Option (List ℕ)) (i : Item) (position : ℕ) → Reaches (first + 1) left rest text behind (Some i) → position ≡ first + 1 → Passes first text behind (i ∷ []) position
-passes_item first left rest text behind i position r is = record { lines = r.lines; are = r.are; handed = r.handed; position_is = omega (arith, is) }
+module _ {D : Type 0} (g : Ghosts D) (first : ℕ) (old new : Replica D) (left : List ℕ) (rest text behind before after : Option (List ℕ)) where
+  -- the next item was passed over
+  pub passes_item : (i : Item) (position : ℕ) → Reaches g (first + 1) old new left rest text behind before after (Some i) → position ≡ first + 1 → Passes first text behind (i ∷ []) position
+  passes_item i position r is = record { lines = r.hands.lines; are = r.are; handed = r.hands.handed; position_is = omega (arith, is) }
 
--- there is none
-pub passes_end : (first : ℕ) (left : List ℕ) (rest text behind : Option (List ℕ)) → Reaches (first + 1) left rest text behind None → Passes first text behind [] first
-passes_end first left rest text behind r = record { lines = r.lines; are = r.are; handed = r.handed; position_is = omega arith }
+  -- there is none
+  pub passes_end : Reaches g (first + 1) old new left rest text behind before after None → Passes first text behind [] first
+  passes_end r = record { lines = r.hands.lines; are = r.are; handed = r.hands.handed; position_is = omega arith }

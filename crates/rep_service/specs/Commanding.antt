@@ -1,12 +1,15 @@
 -- What a node does at a line that asks for something, and what it writes of it.
-use Rattle.std.specs.Prelude.{◌≡◌, ◌≢◌, ◌⊎◌, ℕ, ◌==◌, if◌then◌else◌, List, Option, None, Some, Result, Ok, Err, IfErr, MatchResult}
+use Rattle.std.specs.Prelude.{◌≡◌, ◌⊎◌, ℕ, ◌+◌, ◌==◌, if◌then◌else◌, List, Option, None, Some, Result, Ok, Err, IfErr, MatchResult}
 use Rattle.std.specs.Io.KnownBytes.{Keeps}
 use Rattle.rep_types.specs.declared.key.Key.{Key}
 use Rattle.rep_types.specs.declared.item.Item.{Item}
 use Rattle.rep_types.specs.declared.refusal.Refusal.{Refusal}
 use Rattle.rep_types.specs.declared.refusal.Refusal.TheVariants.{StreamFault, Stopped, DiskFault, OutOfOrder, Malformed}
+use Rattle.rep_types.specs.Windows.{Window}
 use Rattle.rep_disk.specs.declared.disk.Disk.{Ghosts}
-use Rattle.rep_requests.specs.Requests.{Requested, Nothing, Published, Stated, Read, Sum, State, Limits, Counters, Donate, Refused, Broken}
+use Rattle.rep_cert.specs.Holdings.{window_of}
+use Rattle.rep_engine.specs.Engines.{gtid_of, durable_of}
+use Rattle.rep_requests.specs.Requests.{Requested, Nothing, Published, Stated, Read, Sum, State as OwnState, Limits as OwnLimits, Counters as OwnCounters, Donate, Refused as Wrong, Broken}
 use Rattle.rep_replica.specs.Replicas.{Replica, facts_of}
 use Rattle.rep_replica.specs.Settling.{EndsEarly}
 use Rattle.rep_replica.specs.Asking.{IsAsked}
@@ -14,12 +17,14 @@ use Rattle.rep_sum.specs.declared.sum.Sum.{Sum as SumOf}
 use Rattle.rep_sum.specs.Sums.{RowRead, IsSumAt}
 use Rattle.rep_script.specs.Answering.{Tells}
 use Rattle.rep_script.specs.CatchingUp.{donated_line}
+use Rattle.rep_script.specs.Refusing.{refused_line}
 use Rattle.rep_script.specs.Summing.{sum_line, position_of}
 use Rattle.rep_follow.specs.declared.counts.Counts.{Counts}
 use Rattle.rep_follow.specs.Committing.{TellsAll}
-use Rattle.rep_catchup.specs.Donating.{ReadsAlone}
 use Rattle.rep_service.specs.Lines.{rows_line}
+use Rattle.rep_service.specs.declared.counters.Level.{Level}
 use Rattle.rep_service.specs.Rows.{ReadsRows}
+use Rattle.rep_service.specs.Saying.{Said, State, Limits, Counters, Refused, line_of}
 
 -- ---- how a node ends
 
@@ -27,12 +32,12 @@ use Rattle.rep_service.specs.Rows.{ReadsRows}
 abbrev pub EndsNode : Refusal → Type 0
 EndsNode e = (e ≡ StreamFault) ⊎ ((e ≡ Stopped) ⊎ EndsEarly e)
 
--- What comes of a command that is refused: where the device failed or the node is stopped the node ends by it, and nothing is written; else a line is
--- written, and the node goes on unless its writer fails.
+-- What comes of a command that is refused: where the device failed or the node is stopped the node ends by it, and nothing is written; else the line
+-- of the refusal is written, and the node goes on unless its writer fails.
 abbrev pub Refuses : Refusal → Option (List ℕ) → Option (List ℕ) → Result (Unit {0}) Refusal → Type 0
 Refuses DiskFault before after result = (result ≡ Err DiskFault) × Keeps before after
 Refuses Stopped before after result = (result ≡ Err Stopped) × Keeps before after
-Refuses e before after result = IfErr result (λ f. f ≡ StreamFault)
+Refuses e before after result = Tells (refused_line e) before after result × IfErr result (λ f. f ≡ StreamFault)
 
 -- ---- rows
 
@@ -67,12 +72,11 @@ abbrev pub TellsDonated : Result ℕ Refusal → Option (List ℕ) → Option (L
 TellsDonated (Ok last) before after result = Tells (donated_line last) before after result × IfErr result (λ e. e ≡ StreamFault)
 TellsDonated (Err e) before after result = Refuses e before after result
 
--- What comes of a transfer behind what was made durable: where that was refused, nothing more; else the device was read alone, and the transfer told.
--- Unless the device failed, it was asked, and nothing else was done.
+-- What comes of a transfer behind what was made durable: where that was refused, nothing more; else the device was asked, and nothing else was done, and
+-- the transfer told.
 abbrev pub TellsTransfer : {D : Type 0} → Ghosts D → Replica D → Replica D → Result (Unit {0}) Refusal → Option (List ℕ) → Option (List ℕ) → Result (Unit {0}) Refusal → Type 0
 TellsTransfer g mid new (Err e) between after result = (result ≡ Err e) × (new ≡ mid) × (after ≡ between)
-TellsTransfer g mid new (Ok x) between after result =
-    ReadsAlone g mid new × ((donated : Result ℕ Refusal) × (donated ≢ Err DiskFault → IsAsked g mid new) × TellsDonated donated between after result)
+TellsTransfer g mid new (Ok x) between after result = IsAsked g mid new × ((donated : Result ℕ Refusal) × TellsDonated donated between after result)
 
 -- All that was delivered was made durable and told, and then a transfer was written, or refused, and told.
 pub record TellsDonation {D : Type 0} (g : Ghosts D) (old new : Replica D) (was now : Counts) (before after : Option (List ℕ)) (result : Result (Unit {0}) Refusal) : Type 0 where
@@ -81,6 +85,36 @@ pub record TellsDonation {D : Type 0} (g : Ghosts D) (old new : Replica D) (was 
   pub committed : Result (Unit {0}) Refusal
   pub tells : TellsAll g old mid was now before between committed
   pub transfer : TellsTransfer g mid new committed between after result
+
+-- ---- what a node says of itself
+
+-- The line says what stands there at what is durable, or why it is refused.
+pub record TellsOwn (IsOwn : Said → Type 0) (before after : Option (List ℕ)) (result : Result (Unit {0}) Refusal) : Type 0 where
+  pub said : Said
+  pub is : IsOwn said ⊎ ((e : Refusal) × (said ≡ Refused e))
+  pub told : Tells (line_of said) before after result
+  pub fault : IfErr result (λ e. e ≡ StreamFault)
+
+-- the window at what is durable
+abbrev pub window_in : {D : Type 0} → Replica D → Window
+window_in r = window_of r.certifier.current (durable_of r.engine.log)
+
+abbrev pub IsStateOf : {D : Type 0} → Replica D → Said → Type 0
+IsStateOf r said = said ≡ State (gtid_of r.engine) r.engine.checkpoint.base.position (window_in r).entries
+
+abbrev pub IsLimitsOf : {D : Type 0} → Replica D → Said → Type 0
+IsLimitsOf r said = said ≡ Limits (window_in r)
+
+-- where the replica stands; how often its device was synced, that tells
+pub record IsLevelOf {D : Type 0} (g : Ghosts D) (r : Replica D) (level : Level) : Type 0 where
+  pub delivered : level.delivered ≡ r.certifier.current.delivered
+  pub durable : level.durable ≡ (facts_of g r).durable
+  pub base : level.base ≡ r.engine.checkpoint.base.position
+  pub live : (facts_of g r).start + level.cells_live ≡ (facts_of g r).next
+  pub cells : level.cells ≡ r.engine.checkpoint.base.params.cells
+
+abbrev pub AreCountersOf : {D : Type 0} → Ghosts D → Replica D → Counts → Said → Type 0
+AreCountersOf g r counts said = (level : Level) × IsLevelOf g r level × (said ≡ Counters level counts)
 
 -- ---- a line
 
@@ -92,11 +126,11 @@ awaited next number (Published n i) = if n == next then Ok (Some i) else Err (Ou
 awaited next number (Stated i) = Ok (Some i)
 awaited next number (Read keys) = Ok None
 awaited next number (Sum at) = Ok None
-awaited next number State = Ok None
-awaited next number Limits = Ok None
-awaited next number Counters = Ok None
+awaited next number OwnState = Ok None
+awaited next number OwnLimits = Ok None
+awaited next number OwnCounters = Ok None
 awaited next number (Donate have out) = Ok None
-awaited next number (Refused e) = Ok None
+awaited next number (Wrong e) = Ok None
 awaited next number Broken = Err (Malformed number)
 
 -- What comes of it: an item is handed back, and a wrong one ends the node; else the line was answered, unless the node ends by that.
@@ -109,7 +143,7 @@ abbrev pub done_of : {T : Type 0} → Result T Refusal → Result (Unit {0}) Ref
 done_of (Ok x) = Ok tt
 done_of (Err e) = Err e
 
--- What is done at the line: a command is done, and told; nothing is done at an item, and nothing written.
+-- What is done at the line: a command is done, and told by one line; nothing is done at an item, and nothing written.
 abbrev pub DoesAt : {D : Type 0} → Ghosts D → Requested → Replica D → Replica D → Counts → Counts → Option (List ℕ) → Option (List ℕ) → Result (Unit {0}) Refusal → Type 0
 DoesAt g (Read keys) old new was now before after result = (now ≡ was) × TellsRows g keys old new before after result
 DoesAt g (Sum at) old new was now before after result = (now ≡ was) × TellsSumOf g at old new before after result
@@ -118,7 +152,7 @@ DoesAt g Nothing old new was now before after result = (now ≡ was) × ((new �
 DoesAt g (Published n i) old new was now before after result = (now ≡ was) × ((new ≡ old) × (after ≡ before))
 DoesAt g (Stated i) old new was now before after result = (now ≡ was) × ((new ≡ old) × (after ≡ before))
 DoesAt g Broken old new was now before after result = (now ≡ was) × ((new ≡ old) × (after ≡ before))
-DoesAt g State old new was now before after result = (now ≡ was) × new ≡ old
-DoesAt g Limits old new was now before after result = (now ≡ was) × new ≡ old
-DoesAt g Counters old new was now before after result = (now ≡ was) × new ≡ old
-DoesAt g (Refused e) old new was now before after result = (now ≡ was) × new ≡ old
+DoesAt g OwnState old new was now before after result = (now ≡ was) × ((new ≡ old) × TellsOwn (IsStateOf old) before after result)
+DoesAt g OwnLimits old new was now before after result = (now ≡ was) × ((new ≡ old) × TellsOwn (IsLimitsOf old) before after result)
+DoesAt g OwnCounters old new was now before after result = (now ≡ was) × ((new ≡ old) × TellsOwn (AreCountersOf g old was) before after result)
+DoesAt g (Wrong e) old new was now before after result = (now ≡ was) × ((new ≡ old) × TellsOwn (λ said. ⊥) before after result)

@@ -1,7 +1,9 @@
 pub mod Lines
 pub mod Exchanges
+pub mod Syncs
 pub mod Inputs
 pub mod Rows
+pub mod Saying
 pub mod Opening
 pub mod Passing
 pub mod Commanding

@@ -34,9 +34,9 @@ abbrev pub level_part : Level → List ℕ
 level_part l =
     named (codes "delivered") l.delivered ++ (named (codes "durable") l.durable ++ (named (codes "base") l.base ++ (named (codes "cells-live") l.cells_live ++ named (codes "cells") l.cells)))
 
--- what it did since its opening
-abbrev pub work_part : Counts → List ℕ
-work_part c = named (codes "items") c.items ++ (named (codes "blocks") c.blocks ++ named (codes "checkpoints") c.checkpoints)
+-- what it did since its opening; its device counts the syncs
+abbrev pub work_part : ℕ → Counts → List ℕ
+work_part syncs c = named (codes "items") c.items ++ (named (codes "blocks") c.blocks ++ (named (codes "syncs") syncs ++ named (codes "checkpoints") c.checkpoints))
 
 -- the verdicts on its items, and how many of them were no texts of items
 abbrev pub verdict_part : Counts → List ℕ
@@ -46,7 +46,7 @@ verdict_part c =
 
 -- the line of counters
 abbrev pub counters_line : Level → Counts → List ℕ
-counters_line l c = codes "counters" ++ (level_part l ++ (work_part c ++ (verdict_part c ++ 10 ∷ [])))
+counters_line l c = codes "counters" ++ (level_part l ++ (work_part l.syncs c ++ (verdict_part c ++ 10 ∷ [])))
 
 -- the line of an item at or below the base
 abbrev pub old_line : ℕ → List ℕ

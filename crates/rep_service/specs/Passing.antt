@@ -1,12 +1,11 @@
 -- Items of an order that are durable already.
 use Rattle.std.specs.Prelude.{◌≡◌, ◌⊎◌, ℕ, ◌+◌, ◌≤◌, Bool, true, nat_lt, if◌then◌else◌, List, [], ◌∷◌, ◌++◌, length, map, take, Option, None, Some, Result, Ok, Err}
-use Rattle.std.specs.Io.KnownBytes.{Appends, Consumes, IsAtEnd}
+use Rattle.std.specs.Io.KnownBytes.{Appends, Consumes}
 use Rattle.rep_types.specs.declared.item.Item.{Item}
 use Rattle.rep_types.specs.declared.judged.Judged.{Judged}
 use Rattle.rep_types.specs.declared.refusal.Refusal.{Refusal}
 use Rattle.rep_types.specs.declared.refusal.Refusal.TheVariants.{StreamFault}
 use Rattle.rep_types.specs.Replies.{reply_of}
-use Rattle.rep_lines.specs.Lines.{HasNoFeed}
 use Rattle.rep_requests.specs.Requests.{requested}
 use Rattle.rep_follow.specs.Receipts.{receipt_line}
 use Rattle.rep_follow.specs.Taking.{text_of}
@@ -29,13 +28,6 @@ AreLines next (line ∷ lines) items = (IsAnswered next line × AreLines next li
 abbrev pub items_of : Option Item → List Item
 items_of None = []
 items_of (Some i) = i ∷ []
-
--- The next item was reached: the lines before it were answered; or there is none, and the text has ended behind its last line feed.
-pub record Reaches (next : ℕ) (left : List ℕ) (rest text behind : Option (List ℕ)) (found : Option Item) : Type 0 where
-  pub lines : List (List ℕ)
-  pub are : AreLines next lines (items_of found)
-  pub handed : Consumes text behind (text_of lines)
-  pub ended : found ≡ None → HasNoFeed left × IsAtEnd rest
 
 -- These items were passed over, one after another from behind this position on, among lines that were answered.
 pub record Passes (first : ℕ) (text behind : Option (List ℕ)) (items : List Item) (position : ℕ) : Type 0 where

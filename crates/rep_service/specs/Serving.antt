@@ -28,7 +28,7 @@ pub record EndsWell {D : Type 0} (g : Ghosts D) (last : Replica D) (result : Res
 -- How a node ended that goes on behind this opening, and the disk that came back; and what was delivered to the replica that was opened: items of the
 -- lines of the text.
 abbrev pub EndsBehind : {D : Type 0} → Ghosts D → Result (Replica D) (D × Refusal) → Option (List ℕ) → D → Option (List ℕ) → Option (List ℕ) → Result (Unit {0}) Refusal → Type 0
-EndsBehind g (Ok first) text new before after result = (last : _) × (new ≡ last.engine.disk) × EndsWell g last result × FollowsText g first last text result
+EndsBehind g (Ok first) text new before after result = (last : _) × (new ≡ last.engine.disk) × EndsWell g last result × FollowsText g first last text before after result
 EndsBehind g (Err x) text new before after result = (new ≡ x.0) × (result ≡ Err x.1) × (after ≡ before)
 
 -- How a node ended on a disk, and the disk that came back: where the opening was refused, what came back there; else that of the last replica; where it

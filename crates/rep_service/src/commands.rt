@@ -5,8 +5,9 @@ ghost use Rattle.rep_types.specs.declared.refusal.Refusal.TheVariants.{OutOfOrde
 ghost use Rattle.rep_streams.specs.Streams.{Notes};
 ghost use Rattle.rep_requests.specs.Requests.{said_of};
 ghost use Rattle.rep_replica.specs.Replicas.{facts_of};
-ghost use Rattle.rep_service.specs.Commanding.{EndsNode, Refuses, TellsRows, TellsSumOf, TellsDonation, awaited, ComesOf, done_of, DoesAt};
+ghost use Rattle.rep_service.specs.Commanding.{EndsNode, Refuses, TellsRows, TellsSumOf, TellsDonation, TellsOwn, IsStateOf, IsLimitsOf, IsLevelOf, AreCountersOf, awaited, ComesOf, done_of, DoesAt};
 
+use crate::counted::CountsSyncs;
 use crate::counters::{Level, write_level};
 use crate::donating::donate_between;
 use crate::exchange::Exchange;
@@ -63,6 +64,7 @@ fn answer_state<D: Disk, W: Sink>(
     replica: &Replica<D>,
     writer: &mut W,
 ) -> Result<(), Refusal>
+    ensures tells { TellsOwn (IsStateOf replica.now) (W.contents writer.old) (W.contents writer.new) result }
     ensures notes { Notes (W.failed writer.old) (W.failed writer.new) result }
     ensures refused { IfErr result (λ e. e ≡ Refusal.StreamFault) }
 {
@@ -80,6 +82,7 @@ fn answer_limits<D: Disk, W: Sink>(
     replica: &Replica<D>,
     writer: &mut W,
 ) -> Result<(), Refusal>
+    ensures tells { TellsOwn (IsLimitsOf replica.now) (W.contents writer.old) (W.contents writer.new) result }
     ensures notes { Notes (W.failed writer.old) (W.failed writer.new) result }
     ensures refused { IfErr result (λ e. e ≡ Refusal.StreamFault) }
 {
@@ -116,29 +119,45 @@ fn answer_sum<D: Disk, W: Sink>(
     }
 }
 
-/// Where the replica stands.
-fn level_of<D: Disk>(replica: &Replica<D>) -> Level {
+/// Where the replica stands, and how often its device was synced.
+fn level_of<D: Disk + CountsSyncs>(replica: &Replica<D>) -> Level
+    ensures level { IsLevelOf D.Disk replica.now result }
+    ensures syncs { result.syncs ≡ D.CountsSyncs.synced replica.now.engine.disk }
+{
     Level {
         delivered: replica.delivered(),
         durable: replica.durable(),
         base: replica.base(),
         cells_live: replica.cells_live(),
         cells: u64::from(replica.params().cells()),
+        syncs: replica.disk().syncs(),
     }
 }
 
 /// Writes the line of the counters.
 ///
 /// Refuses with `StreamFault` a writer that fails, which it notes.
-fn answer_counters<D: Disk, W: Sink>(
+fn answer_counters<D: Disk + CountsSyncs, W: Sink>(
     replica: &Replica<D>,
     counts: &Counts,
     writer: &mut W,
 ) -> Result<(), Refusal>
+    ensures tells { TellsOwn (AreCountersOf D.Disk replica.now counts.now) (W.contents writer.old) (W.contents writer.new) result }
     ensures notes { Notes (W.failed writer.old) (W.failed writer.new) result }
     ensures refused { IfErr result (λ e. e ≡ Refusal.StreamFault) }
 {
     write_level(writer, &level_of(replica), counts)
+}
+
+/// Writes the line of what is wrong with a line.
+///
+/// Refuses with `StreamFault` a writer that fails, which it notes.
+fn answer_wrong<W: Sink>(refusal: Refusal, writer: &mut W) -> Result<(), Refusal>
+    ensures tells { TellsOwn (λ said. ⊥) (W.contents writer.old) (W.contents writer.new) result }
+    ensures notes { Notes (W.failed writer.old) (W.failed writer.new) result }
+    ensures refused { IfErr result (λ e. e ≡ Refusal.StreamFault) }
+{
+    write_refused(writer, refusal)
 }
 
 /// Makes all that was delivered durable, and writes a transfer under the second name for the joiner that has what stands under the first; then the line
@@ -193,7 +212,7 @@ fn if_next(seqno: u64, item: Item, next: u64) -> Result<Option<Item>, Refusal>
 /// Refuses with `OutOfOrder` an item with another seqno; with `Malformed`, at the line's number, one whose seqno is not of its form; and else as
 /// the command does: with `Stopped`, `DiskFault`, and `StreamFault` where the writer fails, which it notes; and where a transfer is asked for, as
 /// `commit` does.
-pub(crate) fn answer<D: Disk, W: Sink, E: Exchange>(
+pub(crate) fn answer<D: Disk + CountsSyncs, W: Sink, E: Exchange>(
     alloc: Global,
     replica: &mut Replica<D>,
     exchange: &mut E,
@@ -221,7 +240,7 @@ pub(crate) fn answer<D: Disk, W: Sink, E: Exchange>(
         Request::Donate(have, name) => {
             no_item(answer_donate(replica, exchange, counts, have, name, writer))
         }
-        Request::Refused(refusal) => no_item(write_refused(writer, refusal)),
+        Request::Refused(refusal) => no_item(answer_wrong(refusal, writer)),
         Request::Broken => Err(Refusal::Malformed { at: number }),
     }
 }

@@ -23,6 +23,8 @@ pub(crate) struct Level {
     pub(crate) cells_live: u64,
     /// How many cells the log has.
     pub(crate) cells: u64,
+    /// How often its device was synced, as that counts it.
+    pub(crate) syncs: u64,
 }
 
 /// Puts where the node stands behind the line.
@@ -39,13 +41,14 @@ fn put_level(line: &mut Line, level: &Level)
 }
 
 /// Puts what the node did behind the line.
-fn put_work(line: &mut Line, counts: &Counts)
+fn put_work(line: &mut Line, syncs: u64, counts: &Counts)
     requires { length line.old.items + 200 ≤ 2704 }
-    ensures text { line.new.items ≡ line.old.items ++ work_part counts.now }
+    ensures text { line.new.items ≡ line.old.items ++ work_part syncs counts.now }
     ensures few { length line.new.items ≤ length line.old.items + 200 }
 {
     put_named(line, b"items", counts.items);
     put_named(line, b"blocks", counts.blocks);
+    put_named(line, b"syncs", syncs);
     put_named(line, b"checkpoints", counts.checkpoints);
 }
 
@@ -70,7 +73,7 @@ fn line_of(level: &Level, counts: &Counts) -> Line
     let mut line = Line::new();
     put_text(&mut line, b"counters");
     put_level(&mut line, level);
-    put_work(&mut line, counts);
+    put_work(&mut line, level.syncs, counts);
     put_verdicts(&mut line, counts);
     put_text(&mut line, b"\n");
     line

@@ -4,7 +4,7 @@ ghost use Rattle.std.specs.Prelude.{◌≡◌, ◌≢◌, true, is_some, Err};
 ghost use Rattle.rep_types.specs.declared.refusal.Part.{Part};
 ghost use Rattle.rep_steps.specs.Nodes.{Node};
 ghost use Rattle.rep_replica.specs.Holding.{Holds};
-ghost use Rattle.rep_catchup.specs.Donating.{ReadsAlone};
+ghost use Rattle.rep_replica.specs.Asking.{IsAsked};
 
 use crate::exchange::Exchange;
 use rep_catchup::{donate, donation_refusal};
@@ -20,11 +20,11 @@ fn donate_to<D: Disk, E: Exchange>(
     have: &Have,
     mut out: E::Out,
 ) -> Result<u64, Refusal>
-    ensures reads { ReadsAlone D.Disk replica.old replica.new }
+    // The device was asked, and nothing else was done.
+    ensures asked { IsAsked D.Disk replica.old replica.new }
     // The device's fault is told exactly where it stopped the replica.
     ensures stops { result ≡ Err Refusal.DiskFault → is_some replica.new.engine.halted ≡ true }
     ensures runs { result ≢ Err Refusal.DiskFault → replica.new.engine.halted ≡ replica.old.engine.halted }
-    ensures holds { (n : Node) → Holds D.Disk n replica.old → result ≢ Err Refusal.DiskFault → Holds D.Disk n replica.new }
     // An honest device of a node shows nothing that is not of its form.
     ensures whole { (n : Node) → Holds D.Disk n replica.old → (part : Part) → result ≢ Err (Refusal.Corrupt part) }
 {
@@ -47,11 +47,11 @@ fn donate_named<D: Disk, E: Exchange>(
     have: &Have,
     name: &[u8],
 ) -> Result<u64, Refusal>
-    ensures reads { ReadsAlone D.Disk replica.old replica.new }
+    // The device was asked, and nothing else was done.
+    ensures asked { IsAsked D.Disk replica.old replica.new }
     // The device's fault is told exactly where it stopped the replica.
     ensures stops { result ≡ Err Refusal.DiskFault → is_some replica.new.engine.halted ≡ true }
     ensures runs { result ≢ Err Refusal.DiskFault → replica.new.engine.halted ≡ replica.old.engine.halted }
-    ensures holds { (n : Node) → Holds D.Disk n replica.old → result ≢ Err Refusal.DiskFault → Holds D.Disk n replica.new }
     // An honest device of a node shows nothing that is not of its form.
     ensures whole { (n : Node) → Holds D.Disk n replica.old → (part : Part) → result ≢ Err (Refusal.Corrupt part) }
 {
@@ -75,11 +75,11 @@ pub(crate) fn donate_between<D: Disk, E: Exchange>(
     have: &[u8],
     name: &[u8],
 ) -> Result<u64, Refusal>
-    ensures reads { ReadsAlone D.Disk replica.old replica.new }
+    // The device was asked, and nothing else was done.
+    ensures asked { IsAsked D.Disk replica.old replica.new }
     // The device's fault is told exactly where it stopped the replica.
     ensures stops { result ≡ Err Refusal.DiskFault → is_some replica.new.engine.halted ≡ true }
     ensures runs { result ≢ Err Refusal.DiskFault → replica.new.engine.halted ≡ replica.old.engine.halted }
-    ensures holds { (n : Node) → Holds D.Disk n replica.old → result ≢ Err Refusal.DiskFault → Holds D.Disk n replica.new }
     // An honest device of a node shows nothing that is not of its form.
     ensures whole { (n : Node) → Holds D.Disk n replica.old → (part : Part) → result ≢ Err (Refusal.Corrupt part) }
 {

@@ -1,6 +1,6 @@
 //! What an item is answered by that is durable already.
 
-ghost use Rattle.std.specs.Prelude.{◌≡◌, ◌≢◌, ℕ, take, Err, IfErr, OnOk, OnErr};
+ghost use Rattle.std.specs.Prelude.{◌≡◌, ◌≢◌, ◌⊎◌, ℕ, take, Err, IfErr, OnOk, OnErr};
 ghost use Rattle.std.specs.Io.KnownBytes.{Appends};
 ghost use Rattle.rep_streams.specs.Streams.{Notes};
 ghost use Rattle.rep_service.specs.Lines.{old_line};
@@ -48,6 +48,8 @@ pub(crate) fn answer_durable<W: Sink>(
     ensures only { OnOk result (item.now ≡ judged.now.item) }
     ensures same { item.now ≡ judged.now.item → TellsDurable judged.now (W.contents writer.old) (W.contents writer.new) result }
     ensures another { item.now ≢ judged.now.item → (result ≡ Err Refusal.WrongCluster) × (writer.new ≡ writer.old) }
+    // One of the two it is.
+    ensures either { IfErr result (λ e. (W.contents writer.new ≡ W.contents writer.old) ⊎ ((item.now ≡ judged.now.item) × TellsDurable judged.now (W.contents writer.old) (W.contents writer.new) (Err e))) }
     ensures notes { Notes (W.failed writer.old) (W.failed writer.new) result }
 {
     if !is_item(item, &judged.item) {

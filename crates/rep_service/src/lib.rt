@@ -3,6 +3,7 @@
 #![tactic(auto)]
 
 mod commands;
+mod counted;
 mod counters;
 mod donating;
 mod durable;
@@ -16,8 +17,9 @@ mod rows;
 mod same;
 mod service;
 
+pub use counted::{CountedDisk, CountsSyncs};
 pub use exchange::Exchange;
-pub use service::follow_on_disk;
+pub use service::{follow_on_disk, followers_are_fed};
 
 #[cfg(test)]
 mod tests;

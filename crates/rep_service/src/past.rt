@@ -1,14 +1,17 @@
 //! Items of the order that are durable already.
 
-ghost use Rattle.std.specs.Prelude.{◌≡◌, ◌<◌, ◌≤◌, ◌+◌, ◌-◌, ◌^◌, true, false, [], ◌∷◌, Ok, IfOk, OnOk};
+ghost use Rattle.std.specs.Prelude.{◌≡◌, ◌<◌, ◌≤◌, ◌+◌, ◌-◌, ◌^◌, true, false, [], ◌∷◌, Contains, Ok, Err, IfOk, OnOk, MatchResult};
+ghost use Rattle.std.specs.Io.KnownBytes.{IsAtEnd};
+ghost use Rattle.rep_lines.specs.Lines.{HasNoFeed};
 ghost use Rattle.rep_lines.specs.Feeds.{ahead};
 ghost use Rattle.rep_replica.specs.Replicas.{facts_of};
 ghost use Rattle.rep_follow.specs.Following.{NotesEither};
 ghost use Rattle.rep_service.specs.Commanding.{done_of};
-ghost use Rattle.rep_service.specs.Passing.{Reaches, Passes, PassesOld, PassesRecords};
-ghost use Rattle.rep_service.specs.Living.{HandsLines, PassesLines};
+ghost use Rattle.rep_service.specs.Passing.{Passes, PassesOld, PassesRecords};
+ghost use Rattle.rep_service.specs.Living.{HandsLines, Reaches, PassesLines, IsOfLog};
 
 use crate::commands::answer;
+use crate::counted::CountsSyncs;
 use crate::durable::{answer_durable, write_old};
 use crate::exchange::Exchange;
 use crate::input::Input;
@@ -25,7 +28,7 @@ use std::alloc::Global;
 /// The next item of the text, behind the last one, whose seqno is the position; commands before it are answered. None where the text ends.
 ///
 /// Refuses as `Input::next_line` and `answer` do.
-fn next_item<D: Disk, R: Source, W: Sink, E: Exchange>(
+fn next_item<D: Disk + CountsSyncs, R: Source, W: Sink, E: Exchange>(
     alloc: Global,
     replica: &mut Replica<D>,
     exchange: &mut E,
@@ -37,9 +40,8 @@ fn next_item<D: Disk, R: Source, W: Sink, E: Exchange>(
 ) -> Result<Option<Item>, Refusal>
     requires told { (facts_of D.Disk replica.old).ahead ≡ [] }
     requires seqno { position < 2 ^ 64 - 1 }
-    ensures reaches { IfOk result (Reaches (position + 1) input.new.feed (R.remaining source.new) (ahead input.old.feed (R.remaining source.old)) (ahead input.new.feed (R.remaining source.new))) }
     // Nothing is delivered.
-    ensures lives { HandsLines D.Disk replica.old replica.new (ahead input.old.feed (R.remaining source.old)) (ahead input.new.feed (R.remaining source.new)) (done_of result) }
+    ensures reaches { MatchResult result (Reaches D.Disk (position + 1) replica.old replica.new input.new.feed (R.remaining source.new) (ahead input.old.feed (R.remaining source.old)) (ahead input.new.feed (R.remaining source.new)) (W.contents writer.old) (W.contents writer.new)) (λ e. HandsLines D.Disk replica.old replica.new (ahead input.old.feed (R.remaining source.old)) (ahead input.new.feed (R.remaining source.new)) (W.contents writer.old) (W.contents writer.new) (Err e)) }
     ensures ahead { OnOk result ((facts_of D.Disk replica.new).ahead ≡ []) }
     // A stream fault is one of the streams.
     ensures notes { NotesEither (R.failed source.old) (R.failed source.new) (W.failed writer.old) (W.failed writer.new) result }
@@ -75,7 +77,7 @@ fn next_item<D: Disk, R: Source, W: Sink, E: Exchange>(
 /// `position`. Answers `false` where the text ends before.
 ///
 /// Refuses as `next_item` does, and with `StreamFault` a writer that fails.
-fn pass_old<D: Disk, R: Source, W: Sink, E: Exchange>(
+fn pass_old<D: Disk + CountsSyncs, R: Source, W: Sink, E: Exchange>(
     alloc: Global,
     replica: &mut Replica<D>,
     exchange: &mut E,
@@ -89,8 +91,10 @@ fn pass_old<D: Disk, R: Source, W: Sink, E: Exchange>(
     requires based { replica.old.engine.checkpoint.base.position ≤ (facts_of D.Disk replica.old).durable }
     ensures passes { IfOk result (λ done. PassesOld replica.old.engine.checkpoint.base.position position.old (ahead input.old.feed (R.remaining source.old)) (ahead input.new.feed (R.remaining source.new)) done position.new) }
     // Nothing is delivered, and the position rises by one for each item of the lines, up to what is durable at most.
-    ensures lives { PassesLines D.Disk position.old replica.old replica.new (ahead input.old.feed (R.remaining source.old)) (ahead input.new.feed (R.remaining source.new)) position.new (done_of result) }
+    ensures lives { PassesLines D.Disk replica.old.engine.checkpoint.base.position (λ j. ⊥) position.old replica.old replica.new (ahead input.old.feed (R.remaining source.old)) (ahead input.new.feed (R.remaining source.new)) position.new (W.contents writer.old) (W.contents writer.new) (done_of result) }
     ensures within { position.old ≤ (facts_of D.Disk replica.old).durable → OnOk result (position.new ≤ (facts_of D.Disk replica.old).durable) }
+    // Where the text ends, nothing of it is left but bytes without a line feed.
+    ensures left { result ≡ Ok false → HasNoFeed input.new.feed × IsAtEnd (R.remaining source.new) }
     ensures ahead { OnOk result ((facts_of D.Disk replica.new).ahead ≡ []) }
     // A stream fault is one of the streams.
     ensures notes { NotesEither (R.failed source.old) (R.failed source.new) (W.failed writer.old) (W.failed writer.new) result }
@@ -119,7 +123,7 @@ fn pass_old<D: Disk, R: Source, W: Sink, E: Exchange>(
 ///
 /// Refuses as `next_item` and `answer_durable` do, and with `Corrupt` of the log a record that is not the next one, or is above what is durable: an
 /// honest device shows none.
-fn pass_record<D: Disk, R: Source, W: Sink, E: Exchange>(
+fn pass_record<D: Disk + CountsSyncs, R: Source, W: Sink, E: Exchange>(
     alloc: Global,
     replica: &mut Replica<D>,
     exchange: &mut E,
@@ -135,8 +139,10 @@ fn pass_record<D: Disk, R: Source, W: Sink, E: Exchange>(
     // What was passed over is the record's item.
     ensures passes { IfOk result (λ done. done ≡ true → Passes position.old (ahead input.old.feed (R.remaining source.old)) (ahead input.new.feed (R.remaining source.new)) (judged.now.item ∷ []) position.new × (position.new ≡ judged.now.seqno)) }
     ensures ended { IfOk result (λ done. done ≡ false → Passes position.old (ahead input.old.feed (R.remaining source.old)) (ahead input.new.feed (R.remaining source.new)) [] position.new × (position.new ≡ position.old)) }
-    ensures lives { PassesLines D.Disk position.old replica.old replica.new (ahead input.old.feed (R.remaining source.old)) (ahead input.new.feed (R.remaining source.new)) position.new (done_of result) }
+    ensures lives { PassesLines D.Disk 0 (λ j. j ≡ judged.now) position.old replica.old replica.new (ahead input.old.feed (R.remaining source.old)) (ahead input.new.feed (R.remaining source.new)) position.new (W.contents writer.old) (W.contents writer.new) (done_of result) }
     ensures within { position.old ≤ (facts_of D.Disk replica.old).durable → OnOk result (position.new ≤ (facts_of D.Disk replica.old).durable) }
+    // Where the text ends, nothing of it is left but bytes without a line feed.
+    ensures left { result ≡ Ok false → HasNoFeed input.new.feed × IsAtEnd (R.remaining source.new) }
     ensures ahead { OnOk result ((facts_of D.Disk replica.new).ahead ≡ []) }
     ensures notes { NotesEither (R.failed source.old) (R.failed source.new) (W.failed writer.old) (W.failed writer.new) result }
 {
@@ -163,7 +169,7 @@ fn pass_record<D: Disk, R: Source, W: Sink, E: Exchange>(
 /// Passes over the items of a block behind the position, each of which is compared with its record. Answers `false` where the text ends before.
 ///
 /// Refuses as `pass_record` does.
-fn pass_block<D: Disk, R: Source, W: Sink, E: Exchange>(
+fn pass_block<D: Disk + CountsSyncs, R: Source, W: Sink, E: Exchange>(
     alloc: Global,
     replica: &mut Replica<D>,
     exchange: &mut E,
@@ -177,8 +183,10 @@ fn pass_block<D: Disk, R: Source, W: Sink, E: Exchange>(
     requires { (facts_of D.Disk replica.old).ahead ≡ [] }
     ensures passes { IfOk result (λ done. PassesRecords block.entry.records position.old (ahead input.old.feed (R.remaining source.old)) (ahead input.new.feed (R.remaining source.new)) done position.new) }
     // Nothing is delivered, and the position rises by one for each item of the lines, up to what is durable at most.
-    ensures lives { PassesLines D.Disk position.old replica.old replica.new (ahead input.old.feed (R.remaining source.old)) (ahead input.new.feed (R.remaining source.new)) position.new (done_of result) }
+    ensures lives { PassesLines D.Disk 0 (Contains block.entry.records) position.old replica.old replica.new (ahead input.old.feed (R.remaining source.old)) (ahead input.new.feed (R.remaining source.new)) position.new (W.contents writer.old) (W.contents writer.new) (done_of result) }
     ensures within { position.old ≤ (facts_of D.Disk replica.old).durable → OnOk result (position.new ≤ (facts_of D.Disk replica.old).durable) }
+    // Where the text ends, nothing of it is left but bytes without a line feed.
+    ensures left { result ≡ Ok false → HasNoFeed input.new.feed × IsAtEnd (R.remaining source.new) }
     ensures ahead { OnOk result ((facts_of D.Disk replica.new).ahead ≡ []) }
     // A stream fault is one of the streams.
     ensures notes { NotesEither (R.failed source.old) (R.failed source.new) (W.failed writer.old) (W.failed writer.new) result }
@@ -201,7 +209,7 @@ fn pass_block<D: Disk, R: Source, W: Sink, E: Exchange>(
 /// Passes over the items behind the base that are durable, block by block. Answers `false` where the text ends before.
 ///
 /// Refuses as `pass_block` does; with `DiskFault` where the device fails; and with `Corrupt` of the log where it shows no such block.
-fn pass_blocks<D: Disk, R: Source, W: Sink, E: Exchange>(
+fn pass_blocks<D: Disk + CountsSyncs, R: Source, W: Sink, E: Exchange>(
     alloc: Global,
     replica: &mut Replica<D>,
     exchange: &mut E,
@@ -213,10 +221,12 @@ fn pass_blocks<D: Disk, R: Source, W: Sink, E: Exchange>(
 ) -> Result<bool, Refusal>
     requires { (facts_of D.Disk replica.old).ahead ≡ [] }
     // Nothing is delivered, and the position rises by one for each item of the lines, up to what is durable at most.
-    ensures lives { PassesLines D.Disk position.old replica.old replica.new (ahead input.old.feed (R.remaining source.old)) (ahead input.new.feed (R.remaining source.new)) position.new (done_of result) }
+    ensures lives { PassesLines D.Disk 0 (IsOfLog D.Disk replica.old) position.old replica.old replica.new (ahead input.old.feed (R.remaining source.old)) (ahead input.new.feed (R.remaining source.new)) position.new (W.contents writer.old) (W.contents writer.new) (done_of result) }
     ensures within { position.old ≤ (facts_of D.Disk replica.old).durable → OnOk result (position.new ≤ (facts_of D.Disk replica.old).durable) }
     // Where it goes on, all that is durable was passed over.
     ensures all { position.old ≤ (facts_of D.Disk replica.old).durable → result ≡ Ok true → position.new ≡ (facts_of D.Disk replica.old).durable }
+    // Where the text ends, nothing of it is left but bytes without a line feed.
+    ensures left { result ≡ Ok false → HasNoFeed input.new.feed × IsAtEnd (R.remaining source.new) }
     ensures ahead { OnOk result ((facts_of D.Disk replica.new).ahead ≡ []) }
     // A stream fault is one of the streams.
     ensures notes { NotesEither (R.failed source.old) (R.failed source.new) (W.failed writer.old) (W.failed writer.new) result }
@@ -249,7 +259,7 @@ fn pass_blocks<D: Disk, R: Source, W: Sink, E: Exchange>(
 /// from the log, with which they are compared. Answers `false` where the text ends before. The log is not written, and no checkpoint begins.
 ///
 /// Refuses as `pass_old` and `pass_blocks` do.
-pub(crate) fn pass_durable<D: Disk, R: Source, W: Sink, E: Exchange>(
+pub(crate) fn pass_durable<D: Disk + CountsSyncs, R: Source, W: Sink, E: Exchange>(
     alloc: Global,
     replica: &mut Replica<D>,
     exchange: &mut E,
@@ -263,10 +273,12 @@ pub(crate) fn pass_durable<D: Disk, R: Source, W: Sink, E: Exchange>(
     requires based { replica.old.engine.checkpoint.base.position ≤ (facts_of D.Disk replica.old).durable }
     requires within { position.old ≤ (facts_of D.Disk replica.old).durable }
     // Nothing is delivered, and the position rises by one for each item of the lines, up to what is durable at most.
-    ensures lives { PassesLines D.Disk position.old replica.old replica.new (ahead input.old.feed (R.remaining source.old)) (ahead input.new.feed (R.remaining source.new)) position.new (done_of result) }
+    ensures lives { PassesLines D.Disk replica.old.engine.checkpoint.base.position (IsOfLog D.Disk replica.old) position.old replica.old replica.new (ahead input.old.feed (R.remaining source.old)) (ahead input.new.feed (R.remaining source.new)) position.new (W.contents writer.old) (W.contents writer.new) (done_of result) }
     ensures within { OnOk result (position.new ≤ (facts_of D.Disk replica.old).durable) }
     // Where it goes on, all that is durable was passed over.
     ensures all { result ≡ Ok true → position.new ≡ (facts_of D.Disk replica.old).durable }
+    // Where the text ends, nothing of it is left but bytes without a line feed.
+    ensures left { result ≡ Ok false → HasNoFeed input.new.feed × IsAtEnd (R.remaining source.new) }
     ensures ahead { OnOk result ((facts_of D.Disk replica.new).ahead ≡ []) }
     // A stream fault is one of the streams.
     ensures notes { NotesEither (R.failed source.old) (R.failed source.new) (W.failed writer.old) (W.failed writer.new) result }

@@ -1,20 +1,24 @@
 //! A node that follows an order, from its first line to the end of the text.
 
 ghost use Rattle.std.specs.Prelude.{◌≡◌, ◌+◌, ◌≤◌, true, false, [], ◌∷◌, List, Ok, Err, IfErr, OnOk};
+ghost use Rattle.std.specs.Io.KnownBytes.{IsAtEnd};
 ghost use Rattle.rep_types.specs.declared.reply.Reply.{Reply};
 ghost use Rattle.rep_streams.specs.Streams.{Notes};
 ghost use Rattle.rep_log.specs.declared.phase.Phase.TheVariants.{Resting};
+ghost use Rattle.rep_lines.specs.Lines.{HasNoFeed};
 ghost use Rattle.rep_lines.specs.Feeds.{ahead};
 ghost use Rattle.rep_replica.specs.Replicas.{facts_of};
 ghost use Rattle.rep_replica.specs.Settling.{is_quiet};
 ghost use Rattle.rep_follow.specs.Following.{NotesEither};
 ghost use Rattle.rep_follow.specs.Taking.{taken_by};
 ghost use Rattle.rep_service.specs.Commanding.{done_of};
-ghost use Rattle.rep_service.specs.Living.{Lives, TakesItems, FollowsLines, FollowsOrder, FollowsText};
+ghost use Rattle.rep_service.specs.Saying.{Said, receipts_said};
+ghost use Rattle.rep_service.specs.Living.{Lives, TakesItems, FollowsLines, FollowsOrder, ClosesWell, FollowsText, FollowersAreFed};
 ghost use Rattle.rep_service.specs.Inputs.{counted};
 ghost use Rattle.rep_service.specs.Serving.{is_of_line, EndsText, EndsOnDisk};
 
 use crate::commands::answer;
+use crate::counted::CountsSyncs;
 use crate::exchange::Exchange;
 use crate::input::Input;
 use crate::opening::open_order;
@@ -40,7 +44,7 @@ fn take_stated<D: Disk, W: Sink>(
     next: &mut u64,
     item: Item,
 ) -> Result<(), Refusal>
-    ensures lives { (receipts : List Reply) × Lives D.Disk replica.old replica.new (taken_by item result) receipts result }
+    ensures lives { (receipts : List Reply) × Lives D.Disk replica.old replica.new (taken_by item result) (receipts_said receipts) (W.contents writer.old) (W.contents writer.new) result }
     ensures next { OnOk result (next.new ≡ next.old + 1) }
     ensures notes { Notes (W.failed writer.old) (W.failed writer.new) result }
 {
@@ -59,7 +63,7 @@ fn take_stated<D: Disk, W: Sink>(
 /// Answers the line that was handed out last where it is a command, and takes the item where it states one.
 ///
 /// Refuses as `answer` does, and as `take_stated` does.
-fn follow_line<D: Disk, W: Sink, E: Exchange>(
+fn follow_line<D: Disk + CountsSyncs, W: Sink, E: Exchange>(
     alloc: Global,
     replica: &mut Replica<D>,
     exchange: &mut E,
@@ -68,7 +72,7 @@ fn follow_line<D: Disk, W: Sink, E: Exchange>(
     next: &mut u64,
     writer: &mut W,
 ) -> Result<(), Refusal>
-    ensures takes { TakesItems D.Disk next.old (input.now.line.items ∷ []) replica.old replica.new next.new result }
+    ensures takes { TakesItems D.Disk next.old (input.now.line.items ∷ []) replica.old replica.new next.new (W.contents writer.old) (W.contents writer.new) result }
     ensures notes { Notes (W.failed writer.old) (W.failed writer.new) result }
 {
     parts_are_joined::<D>();
@@ -93,7 +97,7 @@ fn follow_line<D: Disk, W: Sink, E: Exchange>(
 
 /// Follows the items that come, and answers the line at which they end, which is a command or an item without a number. Answers `false` where the
 /// text ends.
-fn follow_lines<D: Disk, R: Source, W: Sink, E: Exchange>(
+fn follow_lines<D: Disk + CountsSyncs, R: Source, W: Sink, E: Exchange>(
     alloc: Global,
     replica: &mut Replica<D>,
     exchange: &mut E,
@@ -105,8 +109,10 @@ fn follow_lines<D: Disk, R: Source, W: Sink, E: Exchange>(
 ) -> Result<bool, Refusal>
     // At the end of the text all that was delivered is durable.
     ensures told { result ≡ Ok false → (facts_of D.Disk replica.new).ahead ≡ [] }
+    // Nothing of it is left then but bytes without a line feed.
+    ensures ended { result ≡ Ok false → HasNoFeed input.new.feed × IsAtEnd (R.remaining source.new) }
     // What was delivered are the items of the lines that were handed out.
-    ensures lives { FollowsLines D.Disk next.old replica.old replica.new (ahead input.old.feed (R.remaining source.old)) (ahead input.new.feed (R.remaining source.new)) next.new (done_of result) }
+    ensures lives { FollowsLines D.Disk next.old replica.old replica.new (ahead input.old.feed (R.remaining source.old)) (ahead input.new.feed (R.remaining source.new)) next.new (W.contents writer.old) (W.contents writer.new) (done_of result) }
     // A stream fault is one of the streams.
     ensures notes { NotesEither (R.failed source.old) (R.failed source.new) (W.failed writer.old) (W.failed writer.new) result }
 {
@@ -145,7 +151,7 @@ fn is_of_line(refusal: Refusal) -> bool
 }
 
 /// Follows the lines up to the end of the text.
-fn follow_text<D: Disk, R: Source, W: Sink, E: Exchange>(
+fn follow_text<D: Disk + CountsSyncs, R: Source, W: Sink, E: Exchange>(
     alloc: Global,
     replica: &mut Replica<D>,
     exchange: &mut E,
@@ -156,8 +162,9 @@ fn follow_text<D: Disk, R: Source, W: Sink, E: Exchange>(
     writer: &mut W,
 ) -> Result<(), Refusal>
     ensures told { OnOk result ((facts_of D.Disk replica.new).ahead ≡ []) }
+    ensures ended { OnOk result (HasNoFeed input.new.feed × IsAtEnd (R.remaining source.new)) }
     // What was delivered are the items of the lines that were handed out.
-    ensures lives { FollowsLines D.Disk next.old replica.old replica.new (ahead input.old.feed (R.remaining source.old)) (ahead input.new.feed (R.remaining source.new)) next.new result }
+    ensures lives { FollowsLines D.Disk next.old replica.old replica.new (ahead input.old.feed (R.remaining source.old)) (ahead input.new.feed (R.remaining source.new)) next.new (W.contents writer.old) (W.contents writer.new) result }
     ensures notes { NotesEither (R.failed source.old) (R.failed source.new) (W.failed writer.old) (W.failed writer.new) result }
 {
     parts_are_joined::<D>();
@@ -186,8 +193,8 @@ fn end_text<D: Disk, W: Sink>(
     writer: &mut W,
 ) -> Result<(), Refusal>
     ensures ends { EndsText D.Disk input.now.feed (counted input.now.number 1) replica.old replica.new (W.contents writer.old) (W.contents writer.new) result }
-    // Nothing is delivered.
-    ensures lives { (facts_of D.Disk replica.old).phase ≡ Resting → (receipts : List Reply) × Lives D.Disk replica.old replica.new [] receipts result }
+    // Nothing is delivered; where it ends well, the state closes the text.
+    ensures lives { (facts_of D.Disk replica.old).phase ≡ Resting → (closing : List Said) × Lives D.Disk replica.old replica.new [] closing (W.contents writer.old) (W.contents writer.new) result × OnOk result (ClosesWell replica.new closing) }
     ensures line { IfErr result (λ e. is_of_line e ≡ true → replica.new ≡ replica.old) }
     ensures notes { Notes (W.failed writer.old) (W.failed writer.new) result }
 {
@@ -207,7 +214,7 @@ fn end_text<D: Disk, W: Sink>(
 }
 
 /// Follows the order behind its first line, up to the end of the text.
-fn follow_order<D: Disk, R: Source, W: Sink, E: Exchange>(
+fn follow_order<D: Disk + CountsSyncs, R: Source, W: Sink, E: Exchange>(
     alloc: Global,
     replica: &mut Replica<D>,
     exchange: &mut E,
@@ -221,8 +228,9 @@ fn follow_order<D: Disk, R: Source, W: Sink, E: Exchange>(
     requires based { replica.old.engine.checkpoint.base.position ≤ (facts_of D.Disk replica.old).durable }
     requires within { position ≤ (facts_of D.Disk replica.old).durable }
     ensures told { OnOk result ((facts_of D.Disk replica.new).ahead ≡ []) }
+    ensures ended { OnOk result (HasNoFeed input.new.feed × IsAtEnd (R.remaining source.new)) }
     // What was delivered are the items of the lines behind those that were durable already.
-    ensures lives { FollowsOrder D.Disk position replica.old replica.new (ahead input.old.feed (R.remaining source.old)) (ahead input.new.feed (R.remaining source.new)) result }
+    ensures lives { FollowsOrder D.Disk position replica.old replica.new (ahead input.old.feed (R.remaining source.old)) (ahead input.new.feed (R.remaining source.new)) (W.contents writer.old) (W.contents writer.new) [] result }
     ensures notes { NotesEither (R.failed source.old) (R.failed source.new) (W.failed writer.old) (W.failed writer.new) result }
 {
     parts_are_joined::<D>();
@@ -257,7 +265,7 @@ fn end_behind<D: Disk, W: Sink>(
     writer: &mut W,
 ) -> Refusal
     ensures told { is_of_line refusal ≡ true → is_of_line result ≡ true → (facts_of D.Disk replica.new).ahead ≡ [] }
-    ensures lives { is_of_line refusal ≡ true → (receipts : List Reply) × Lives D.Disk replica.old replica.new [] receipts (Err result) }
+    ensures lives { is_of_line refusal ≡ true → (receipts : List Reply) × Lives D.Disk replica.old replica.new [] (receipts_said receipts) (W.contents writer.old) (W.contents writer.new) (Err result) }
     ensures line { is_of_line refusal ≡ true → Notes {T = Unit {0}} (W.failed writer.old) (W.failed writer.new) (Err result) }
     ensures other { is_of_line refusal ≡ false → (result ≡ refusal) × (replica.new ≡ replica.old) × (writer.new ≡ writer.old) }
 {
@@ -271,7 +279,7 @@ fn end_behind<D: Disk, W: Sink>(
 }
 
 /// Follows an order by this replica, from the first line of the text to its end.
-fn follow<D: Disk, R: Source, W: Sink, E: Exchange>(
+fn follow<D: Disk + CountsSyncs, R: Source, W: Sink, E: Exchange>(
     alloc: Global,
     replica: &mut Replica<D>,
     source: &mut R,
@@ -283,7 +291,7 @@ fn follow<D: Disk, R: Source, W: Sink, E: Exchange>(
     requires rests { (facts_of D.Disk replica.old).phase ≡ Resting }
     ensures quiet { OnOk result (is_quiet (facts_of D.Disk replica.new) ≡ true) }
     // What was delivered are the items of the lines behind those that were durable already.
-    ensures lives { FollowsText D.Disk replica.old replica.new (ahead [] (R.remaining source.old)) result }
+    ensures lives { FollowsText D.Disk replica.old replica.new (ahead [] (R.remaining source.old)) (W.contents writer.old) (W.contents writer.new) result }
     // Where it ends at a line, all that came before is durable.
     ensures told { IfErr result (λ e. is_of_line e ≡ true → (facts_of D.Disk replica.new).ahead ≡ []) }
     ensures notes { NotesEither (R.failed source.old) (R.failed source.new) (W.failed writer.old) (W.failed writer.new) result }
@@ -320,7 +328,7 @@ fn follow<D: Disk, R: Source, W: Sink, E: Exchange>(
 /// `Malformed`, at the number that it would have. What came before any of these is durable then, and told. And with `OutOfMemory`, `DiskFault`, and
 /// `Corrupt` as a block, a checkpoint and the log are; with `Exhausted` where no seqno is left; and with `StreamFault` where a stream fails, which it
 /// notes.
-pub fn follow_on_disk<D: Disk, R: Source, W: Sink, E: Exchange>(
+pub fn follow_on_disk<D: Disk + CountsSyncs, R: Source, W: Sink, E: Exchange>(
     alloc: Global,
     disk: D,
     source: &mut R,
@@ -339,3 +347,10 @@ pub fn follow_on_disk<D: Disk, R: Source, W: Sink, E: Exchange>(
         Err((disk, refusal)) => (disk, Err(refusal)),
     }
 }
+
+/// A life in which lines of an order were followed, as `follow_on_disk` follows them from its opening on, was fed lines of it. So, by
+/// `followers_follow_the_order`, lives of this kind follow the order: what they have is a front of it, with all that was durable behind the last answer of
+/// each, and their receipts are the replies of a node that never stopped.
+pub fn followers_are_fed<D: Disk>()
+    ensures { FollowersAreFed D.Disk }
+{}

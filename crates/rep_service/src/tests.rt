@@ -1,6 +1,6 @@
 //! Whole texts that a node in memory follows, and what it writes of them.
 
-use crate::{Exchange, follow_on_disk};
+use crate::{CountedDisk, Exchange, follow_on_disk};
 use rep_disk::MemDisk;
 use rep_layout::need;
 use rep_recover::format_disk;
@@ -81,8 +81,14 @@ fn followed(
         kept: 0,
         discarded: 0,
     };
-    let (disk, outcome) = follow_on_disk(alloc, disk, &mut source, &mut sink, &mut names);
-    Ok((disk, sink, outcome))
+    let (disk, outcome) = follow_on_disk(
+        alloc,
+        CountedDisk::new(disk),
+        &mut source,
+        &mut sink,
+        &mut names,
+    );
+    Ok((disk.into_inner(), sink, outcome))
 }
 
 /// Whether these texts are followed so, one after another on one disk: this is written of the last, which ends so.
@@ -200,7 +206,14 @@ const TEXTS: &[(&str, &str, &str, Result<(), Refusal>)] = &[
     (
         "",
         "order 11111111-1111-1111-1111-111111111111:0\n1 item 0 w 0/1=61\ncounters\n",
-        "at 11111111-1111-1111-1111-111111111111:0 base 0\ncounters delivered 1 durable 0 base 0 cells-live 0 cells 4 items 1 blocks 0 checkpoints 0 commit 0 conflict 0 stale 0 future 0 badkey 0 unreadable 0\n1 commit 0:0\nstate 11111111-1111-1111-1111-111111111111:1 base 0 window 1\n",
+        "at 11111111-1111-1111-1111-111111111111:0 base 0\ncounters delivered 1 durable 0 base 0 cells-live 0 cells 4 items 1 blocks 0 syncs 1 checkpoints 0 commit 0 conflict 0 stale 0 future 0 badkey 0 unreadable 0\n1 commit 0:0\nstate 11111111-1111-1111-1111-111111111111:1 base 0 window 1\n",
+        Ok(()),
+    ),
+    // syncs: one of the opening, and those of a block
+    (
+        "",
+        "order 11111111-1111-1111-1111-111111111111:0\n1 item 0 w 0/1=61\ndonate new out\ncounters\n",
+        "at 11111111-1111-1111-1111-111111111111:0 base 0\n1 commit 0:0\ndonated 1\ncounters delivered 1 durable 1 base 0 cells-live 1 cells 4 items 1 blocks 1 syncs 3 checkpoints 0 commit 1 conflict 0 stale 0 future 0 badkey 0 unreadable 0\nstate 11111111-1111-1111-1111-111111111111:1 base 0 window 1\n",
         Ok(()),
     ),
     // a transfer: what was delivered is durable first

@@ -4,69 +4,66 @@ use Rattle.rep_types.specs.declared.refusal.Refusal.TheVariants.{Exhausted}
 use Rattle.rep_streams.proofs.Noted.{noted_ok}
 use Rattle.rep_service.proofs.Noting.{still_done, still_own, by_writer, by_source}
 use Rattle.rep_lines.specs.Feeds.{ahead}
-use Rattle.rep_requests.specs.Requests.{said_of}
-use Rattle.rep_service.proofs.Reaching.{answers_none, answers_more, reaches_item, is_item, is_answered}
+use Rattle.rep_requests.specs.Requests.{requested, said_of}
+use Rattle.rep_service.proofs.Reaching.{reaching_none, reaching_more, reaches_item, reaches_end, is_item, is_answered}
 use Rattle.rep_service.proofs.Lives.{did}
-use Rattle.rep_service.proofs.Passed.{hands_none, hands_kept, hands_more, hands_as}
+use Rattle.rep_service.proofs.Handing.{hands_kept, hands_more, hands_as}
 use Rattle.rep_service.proofs.past.next_item.Goals as goal
 
 -- ---- the text
 
 pub loop-init : goal.loop-init
-loop-init g c =
-    let text = ahead c.args.input.now.feed (g.R.Source.remaining c.args.source.now) in
-    record { answers = answers_none (c.args.position + 1) text; lives = hands_none g.D.Disk c.parts_are_joined.ensures c.args.replica.now text; told = c.requires.told; source = refl; writer = refl }
+loop-init g c = record {
+  so = reaching_none g.D.Disk c.parts_are_joined.ensures (c.args.position + 1) c.args.replica.now (ahead c.args.input.now.feed (g.R.Source.remaining c.args.source.now)) _;
+  told = c.requires.told;
+  source = refl;
+  writer = refl;
+}
+
+pub returns-in-Ok-false-clause-reaches : goal.returns-in-Ok-false-clause-reaches
+returns-in-Ok-false-clause-reaches g c =
+    let hands = rw c.in-Ok-false.field-0-test at c.in-Ok-false.ensures.hands in
+    reaches_end g.D.Disk c.parts_are_joined.ensures (c.args.position + 1) c.args.replica.now c.loop.replica _ _ _ _ _ c.loop.invariant.so _ _ hands.0 hands.1 hands.2
+
+pub returns-in-Err-clause-reaches : goal.returns-in-Err-clause-reaches
+returns-in-Err-clause-reaches g c = hands_kept g.D.Disk c.args.replica.now c.loop.replica _ _ _ _ _ (Err c.in-Err.refusal) c.loop.invariant.so.hands c.in-Err.ensures.hands.0
 
 pub returns-in-Ok-Some-clause-reaches : goal.returns-in-Ok-Some-clause-reaches
 returns-in-Ok-Some-clause-reaches g c =
-    let rest = g.R.Source.remaining in
     let hands = rw c.in-Ok-true.field-0-test at c.in-Ok-true.ensures.hands in
     let line = c.next_line.new.self.line.items in
-    let is = is_item (c.args.position + 1) c.next_line.new.self.number line c.as_slice.result.now (said_of c.read_request-request.result) c.answer.result c.as_slice.ensures.value c.read_request-request.ensures c.answer.ensures.comes
-    c.in-Ok-Some.item (c.in-Ok-Some.is ∙ ap Ok c.in-Ok-Some.field-0-is) in
-    reaches_item (c.args.position + 1) (ahead c.args.input.now.feed (rest c.args.source.now)) (ahead c.loop.input.feed (rest c.loop.source)) (ahead c.next_line.new.self.feed (rest c.next_line.new.source)) c.loop.invariant.answers
-    c.next_line.new.self.feed (rest c.next_line.new.source) line c.in-Ok-Some.item hands.1 is
+    let number = c.next_line.new.self.number in
+    let request = said_of c.read_request-request.result in
+    let done = did g.D.Disk c.parts_are_joined.ensures c.going_is_joined.ensures request c.loop.replica c.answer.new.replica _ _ _ _ (Ok tt) c.in-Ok-Some.ensures.does in
+    let is = is_item (c.args.position + 1) number line c.as_slice.result.now request c.answer.result c.as_slice.ensures.value c.read_request-request.ensures c.answer.ensures.comes c.in-Ok-Some.item (c.in-Ok-Some.is ∙ ap Ok c.in-Ok-Some.field-0-is) in
+    reaches_item g.D.Disk c.parts_are_joined.ensures (c.args.position + 1) c.args.replica.now c.loop.replica _ _ _ _ _ c.loop.invariant.so c.answer.new.replica _ number line request (c.read_request-request.ensures ∙ ap (requested number) c.as_slice.ensures.value) hands.1 c.loop.invariant.told done _ _ c.in-Ok-Some.item is
 
 pub loop-preserved : goal.loop-preserved
 loop-preserved g c =
-    let rest = g.R.Source.remaining in
     let hands = rw c.in-Ok-true.field-0-test at c.in-Ok-true.ensures.hands in
     let line = c.next_line.new.self.line.items in
-    let is = is_answered (c.args.position + 1) c.next_line.new.self.number line c.as_slice.result.now (said_of c.read_request-request.result) c.answer.result c.as_slice.ensures.value c.read_request-request.ensures c.answer.ensures.comes
-    (c.in-Ok-None.is ∙ ap Ok c.in-Ok-None.field-0-is) in
-    let lives = did g.D.Disk c.parts_are_joined.ensures c.going_is_joined.ensures (said_of c.read_request-request.result) c.loop.replica c.answer.new.replica _ _ _ _ (Ok tt) c.in-Ok-None.ensures.does in
+    let number = c.next_line.new.self.number in
+    let request = said_of c.read_request-request.result in
+    let done = did g.D.Disk c.parts_are_joined.ensures c.going_is_joined.ensures request c.loop.replica c.answer.new.replica _ _ _ _ (Ok tt) c.in-Ok-None.ensures.does in
+    let is = is_answered (c.args.position + 1) number line c.as_slice.result.now request c.answer.result c.as_slice.ensures.value c.read_request-request.ensures c.answer.ensures.comes (c.in-Ok-None.is ∙ ap Ok c.in-Ok-None.field-0-is) in
     record {
-      answers = answers_more (c.args.position + 1) (ahead c.args.input.now.feed (rest c.args.source.now)) (ahead c.loop.input.feed (rest c.loop.source)) (ahead c.next_line.new.self.feed (rest c.next_line.new.source)) c.loop.invariant.answers line hands.1 is;
-      lives = hands_more g.D.Disk c.parts_are_joined.ensures c.args.replica.now c.loop.replica c.answer.new.replica _ _ _ line lives.0 (Ok tt) c.loop.invariant.lives hands.1 c.loop.invariant.told lives.1;
+      so = reaching_more g.D.Disk c.parts_are_joined.ensures (c.args.position + 1) c.args.replica.now c.loop.replica _ _ _ _ _ c.loop.invariant.so c.answer.new.replica _ number line request (c.read_request-request.ensures ∙ ap (requested number) c.as_slice.ensures.value) hands.1 c.loop.invariant.told done is;
       told = c.in-Ok-None.ensures.ahead c.loop.invariant.told;
       source = noted_ok _ _ _ c.in-Ok-true.ensures.notes ∙ c.loop.invariant.source;
       writer = noted_ok _ _ _ c.in-Ok-None.ensures.notes ∙ c.loop.invariant.writer;
     }
 
--- ---- what was done
-
-pub returns-in-Ok-false-clause-lives : goal.returns-in-Ok-false-clause-lives
-returns-in-Ok-false-clause-lives g c =
-    let hands = rw c.in-Ok-false.field-0-test at c.in-Ok-false.ensures.hands in
-    hands_kept g.D.Disk c.args.replica.now c.loop.replica _ _ _ (Ok tt) c.loop.invariant.lives hands.2
-
-pub returns-in-Err-clause-lives : goal.returns-in-Err-clause-lives
-returns-in-Err-clause-lives g c = hands_kept g.D.Disk c.args.replica.now c.loop.replica _ _ _ (Err c.in-Err.refusal) c.loop.invariant.lives c.in-Err.ensures.hands.0
-
-pub returns-in-Ok-Some-clause-lives : goal.returns-in-Ok-Some-clause-lives
-returns-in-Ok-Some-clause-lives g c =
+pub returns-in-Err-answer-clause-reaches : goal.returns-in-Err-answer-clause-reaches
+returns-in-Err-answer-clause-reaches g c =
     let hands = rw c.in-Ok-true.field-0-test at c.in-Ok-true.ensures.hands in
-    let lives = did g.D.Disk c.parts_are_joined.ensures c.going_is_joined.ensures (said_of c.read_request-request.result) c.loop.replica c.answer.new.replica _ _ _ _ (Ok tt) c.in-Ok-Some.ensures.does in
-    hands_more g.D.Disk c.parts_are_joined.ensures c.args.replica.now c.loop.replica c.answer.new.replica _ _ _ c.next_line.new.self.line.items lives.0 (Ok tt) c.loop.invariant.lives hands.1 c.loop.invariant.told lives.1
+    let line = c.next_line.new.self.line.items in
+    let number = c.next_line.new.self.number in
+    let request = said_of c.read_request-request.result in
+    let done = did g.D.Disk c.parts_are_joined.ensures c.going_is_joined.ensures request c.loop.replica c.answer.new.replica _ _ _ _ (Err c.in-Err-answer.refusal) c.in-Err-answer.ensures.does in
+    hands_more g.D.Disk c.parts_are_joined.ensures c.args.replica.now c.loop.replica c.answer.new.replica _ _ _ _ _ _ number line request (Err c.in-Err-answer.refusal) (c.read_request-request.ensures ∙ ap (requested number) c.as_slice.ensures.value) c.loop.invariant.so.hands hands.1 c.loop.invariant.told done
 
-pub returns-in-Err-answer-clause-lives : goal.returns-in-Err-answer-clause-lives
-returns-in-Err-answer-clause-lives g c =
-    let hands = rw c.in-Ok-true.field-0-test at c.in-Ok-true.ensures.hands in
-    let lives = did g.D.Disk c.parts_are_joined.ensures c.going_is_joined.ensures (said_of c.read_request-request.result) c.loop.replica c.answer.new.replica _ _ _ _ (Err c.in-Err-answer.refusal) c.in-Err-answer.ensures.does in
-    hands_more g.D.Disk c.parts_are_joined.ensures c.args.replica.now c.loop.replica c.answer.new.replica _ _ _ c.next_line.new.self.line.items lives.0 (Err c.in-Err-answer.refusal) c.loop.invariant.lives hands.1 c.loop.invariant.told lives.1
-
-pub returns-clause-lives : goal.returns-clause-lives
-returns-clause-lives g c = hands_as g.D.Disk c.args.replica.now c.loop.replica _ _ (Err Exhausted) c.loop.invariant.lives
+pub returns-clause-reaches : goal.returns-clause-reaches
+returns-clause-reaches g c = hands_as g.D.Disk c.args.replica.now c.loop.replica _ _ _ _ (Err Exhausted) c.loop.invariant.so.hands
 
 -- ---- the streams
 

@@ -1,13 +1,13 @@
 use Rattle.std.proofs.Common.{◌≡◌, ◌≤◌, [], Ok}
 use Rattle.rep_replica.specs.Replicas.{facts_of}
 use Rattle.rep_lines.specs.Feeds.{ahead}
-use Rattle.rep_service.specs.Living.{PassesLines}
+use Rattle.rep_service.specs.Living.{PassesLines, IsOfLog}
 use Rattle.rep_service.proofs.past.pass_blocks.Given as goal
 
 -- all that was delivered is durable, and no stream has failed
 abbrev pub invariant-loop-index : goal.invariant-loop-index
 invariant-loop-index g l = record {
-  lives : PassesLines g.D.Disk l.fn.position l.fn.replica l.replica (ahead l.fn.input.feed (g.R.Source.remaining l.fn.source)) (ahead l.input.feed (g.R.Source.remaining l.source)) l.position (Ok tt);
+  lives : PassesLines g.D.Disk 0 (IsOfLog g.D.Disk l.fn.replica) l.fn.position l.fn.replica l.replica (ahead l.fn.input.feed (g.R.Source.remaining l.fn.source)) (ahead l.input.feed (g.R.Source.remaining l.source)) l.position (g.W.Sink.contents l.fn.writer) (g.W.Sink.contents l.writer) (Ok tt);
   within : l.fn.position ≤ (facts_of g.D.Disk l.fn.replica).durable → l.position ≤ (facts_of g.D.Disk l.fn.replica).durable;
   ahead : (facts_of g.D.Disk l.replica).ahead ≡ [];
   source : g.R.Source.failed l.source ≡ g.R.Source.failed l.fn.source;

@@ -4,32 +4,39 @@ use Rattle.rep_streams.proofs.Noted.{noted_ok}
 use Rattle.rep_follow.proofs.Noting.{source_kept, writer_kept}
 use Rattle.rep_service.proofs.Reaching.{passes_item, passes_end}
 use Rattle.rep_service.proofs.Records.{old_none, old_more, old_end}
-use Rattle.rep_service.proofs.Passed.{passes_none, passes_both, passes_reached, passes_ended, passes_not}
+use Rattle.rep_service.specs.Saying.{Old}
+use Rattle.rep_service.proofs.Passed.{writes_old, passes_none, passes_both, passes_reached, passes_ended, passes_not}
 use Rattle.rep_service.proofs.past.pass_old.Goals as goal
 
 pub old-init : goal.old-init
-old-init g c = record { passes = old_none c.base-base.result c.args.position.now (ahead c.args.input.now.feed (g.R.Source.remaining c.args.source.now)); lives = passes_none g.D.Disk c.parts_are_joined.ensures c.args.position.now c.args.replica.now (ahead c.args.input.now.feed (g.R.Source.remaining c.args.source.now)) (Ok tt); within = λ within. within; told = c.requires.told; source = refl; writer = refl }
+old-init g c =
+    let text = ahead c.args.input.now.feed (g.R.Source.remaining c.args.source.now) in
+    record {
+      passes = old_none c.base-base.result c.args.position.now text;
+      lives = passes_none g.D.Disk c.base-base.result (λ j. ⊥) c.parts_are_joined.ensures c.args.position.now c.args.replica.now text (g.W.Sink.contents c.args.writer.now) (Ok tt);
+      within = λ within. within;
+      told = c.requires.told;
+      source = refl;
+      writer = refl;
+    }
 
 pub returns-in-Ok-None-clause-passes : goal.returns-in-Ok-None-clause-passes
 returns-in-Ok-None-clause-passes g c =
     let rest = g.R.Source.remaining in
-    let mid = ahead c.old.input.feed (rest c.old.source) in
-    let behind = ahead c.next_item.new.input.feed (rest c.next_item.new.source) in
     let reached = rw c.in-Ok-None.field-0-is at c.in-Ok-None.ensures.reaches in
-    let ended = old_end c.base-base.result c.args.position.now (ahead c.args.input.now.feed (rest c.args.source.now)) mid behind c.old.position c.old.invariant.passes (passes_end c.old.position c.next_item.new.input.feed (rest c.next_item.new.source) mid behind reached) in
+    let ended = old_end c.base-base.result c.args.position.now (ahead c.args.input.now.feed (rest c.args.source.now)) _ _ c.old.position c.old.invariant.passes (passes_end g.D.Disk c.old.position c.old.replica c.next_item.new.replica _ _ _ _ _ _ reached) in
     rw c.base-base.ensures at ended
 
 pub old-preserved : goal.old-preserved
 old-preserved g c =
     let rest = g.R.Source.remaining in
-    let mid = ahead c.old.input.feed (rest c.old.source) in
-    let behind = ahead c.next_item.new.input.feed (rest c.next_item.new.source) in
     let reached = rw c.in-Ok-Some.field-0-is at c.in-Ok-Some.ensures.reaches in
+    let writes = writes_old (c.old.position + 1) _ _ (Ok tt) c.in_default.ensures.ok c.in_default.ensures.cut c.in_default.ensures.refused in
     record {
-      passes = old_more c.base-base.result c.args.position.now (ahead c.args.input.now.feed (rest c.args.source.now)) mid behind c.in-Ok-Some.field-0-0 c.old.position (c.old.position + 1) c.old.invariant.passes
-          (passes_item c.old.position c.next_item.new.input.feed (rest c.next_item.new.source) mid behind c.in-Ok-Some.field-0-0 (c.old.position + 1) reached refl);
-      lives = passes_both g.D.Disk c.parts_are_joined.ensures c.args.position.now c.old.position (c.old.position + 1) c.args.replica.now c.old.replica c.next_item.new.replica _ _ _ (Ok tt) c.old.invariant.lives
-          (passes_reached g.D.Disk c.old.position c.next_item.new.input.feed (rest c.next_item.new.source) c.old.replica c.next_item.new.replica _ _ c.in-Ok-Some.field-0-0 (c.old.position + 1) (Ok tt) reached c.in-Ok-Some.ensures.lives refl);
+      passes = old_more c.base-base.result c.args.position.now (ahead c.args.input.now.feed (rest c.args.source.now)) _ _ c.in-Ok-Some.field-0-0 c.old.position (c.old.position + 1) c.old.invariant.passes
+          (passes_item g.D.Disk c.old.position c.old.replica c.next_item.new.replica _ _ _ _ _ _ c.in-Ok-Some.field-0-0 (c.old.position + 1) reached refl);
+      lives = passes_both g.D.Disk c.base-base.result (λ j. ⊥) c.parts_are_joined.ensures c.args.position.now c.old.position (c.old.position + 1) c.args.replica.now c.old.replica c.next_item.new.replica _ _ _ _ _ _ (Ok tt) c.old.invariant.lives
+          (passes_reached g.D.Disk c.base-base.result (λ j. ⊥) c.parts_are_joined.ensures c.old.position _ _ c.old.replica c.next_item.new.replica _ _ _ _ _ c.in-Ok-Some.field-0-0 (Old (c.old.position + 1)) (c.old.position + 1) (Ok tt) reached refl refl refl refl (omega (arith, c.old-test.true)) writes refl);
       within = λ within. omega (arith, c.old-test.true, c.base-base.ensures, c.requires.based);
       told = c.in-Ok-Some.ensures.ahead;
       source = source_kept (g.R.Source.failed c.old.source) (g.R.Source.failed c.next_item.new.source) (g.W.Sink.failed c.old.writer) (g.W.Sink.failed c.next_item.new.writer) c.in-Ok-Some.field-0 c.in-Ok-Some.ensures.notes ∙ c.old.invariant.source;
@@ -39,16 +46,23 @@ old-preserved g c =
 pub returns-in-Ok-None-clause-lives : goal.returns-in-Ok-None-clause-lives
 returns-in-Ok-None-clause-lives g c =
     let reached = rw c.in-Ok-None.field-0-is at c.in-Ok-None.ensures.reaches in
-    passes_both g.D.Disk c.parts_are_joined.ensures c.args.position.now c.old.position c.old.position c.args.replica.now c.old.replica c.next_item.new.replica _ _ _ (Ok tt) c.old.invariant.lives
-    (passes_ended g.D.Disk c.old.position c.next_item.new.input.feed (g.R.Source.remaining c.next_item.new.source) c.old.replica c.next_item.new.replica _ _ reached c.in-Ok-None.ensures.lives)
+    let lives = passes_both g.D.Disk c.base-base.result (λ j. ⊥) c.parts_are_joined.ensures c.args.position.now c.old.position c.old.position c.args.replica.now c.old.replica c.next_item.new.replica _ _ _ _ _ _ (Ok tt) c.old.invariant.lives
+    (passes_ended g.D.Disk c.base-base.result (λ j. ⊥) c.old.position _ _ c.old.replica c.next_item.new.replica _ _ _ _ reached) in
+    rw c.base-base.ensures at lives
 
 pub returns-in-Err-clause-lives : goal.returns-in-Err-clause-lives
 returns-in-Err-clause-lives g c =
-    passes_both g.D.Disk c.parts_are_joined.ensures c.args.position.now c.old.position c.old.position c.args.replica.now c.old.replica c.next_item.new.replica _ _ _ (Err c.in-Err.refusal) c.old.invariant.lives
-    (passes_not g.D.Disk c.old.position c.old.replica c.next_item.new.replica _ _ c.old.position c.in-Err.refusal c.in-Err.ensures.lives)
+    let lives = passes_both g.D.Disk c.base-base.result (λ j. ⊥) c.parts_are_joined.ensures c.args.position.now c.old.position c.old.position c.args.replica.now c.old.replica c.next_item.new.replica _ _ _ _ _ _ (Err c.in-Err.refusal) c.old.invariant.lives
+    (passes_not g.D.Disk c.base-base.result (λ j. ⊥) c.old.position c.old.replica c.next_item.new.replica _ _ c.old.position _ _ c.in-Err.refusal c.in-Err.ensures.reaches) in
+    rw c.base-base.ensures at lives
 
 pub returns-in-Err-write_old-clause-lives : goal.returns-in-Err-write_old-clause-lives
 returns-in-Err-write_old-clause-lives g c =
     let reached = rw c.in-Ok-Some.field-0-is at c.in-Ok-Some.ensures.reaches in
-    passes_both g.D.Disk c.parts_are_joined.ensures c.args.position.now c.old.position c.old.position c.args.replica.now c.old.replica c.next_item.new.replica _ _ _ (Err c.in-Err-write_old.refusal) c.old.invariant.lives
-    (passes_reached g.D.Disk c.old.position c.next_item.new.input.feed (g.R.Source.remaining c.next_item.new.source) c.old.replica c.next_item.new.replica _ _ c.in-Ok-Some.field-0-0 c.old.position (Err c.in-Err-write_old.refusal) reached c.in-Ok-Some.ensures.lives tt)
+    let writes = writes_old (c.old.position + 1) _ _ (Err c.in-Err-write_old.refusal) c.in-Err-write_old.ensures.ok c.in-Err-write_old.ensures.cut c.in-Err-write_old.ensures.refused in
+    let lives = passes_both g.D.Disk c.base-base.result (λ j. ⊥) c.parts_are_joined.ensures c.args.position.now c.old.position c.old.position c.args.replica.now c.old.replica c.next_item.new.replica _ _ _ _ _ _ (Err c.in-Err-write_old.refusal) c.old.invariant.lives
+    (passes_reached g.D.Disk c.base-base.result (λ j. ⊥) c.parts_are_joined.ensures c.old.position _ _ c.old.replica c.next_item.new.replica _ _ _ _ _ c.in-Ok-Some.field-0-0 (Old (c.old.position + 1)) c.old.position (Err c.in-Err-write_old.refusal) reached refl refl refl refl (omega (arith, c.old-test.true)) writes tt) in
+    rw c.base-base.ensures at lives
+
+pub returns-clause-lives : goal.returns-clause-lives
+returns-clause-lives g c = rw c.base-base.ensures at c.old.invariant.lives

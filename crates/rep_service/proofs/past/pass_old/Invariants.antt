@@ -9,7 +9,7 @@ use Rattle.rep_service.proofs.past.pass_old.Given as goal
 abbrev pub invariant-old : goal.invariant-old
 invariant-old g l = record {
   passes : PassesOld l.base l.fn.position (ahead l.fn.input.feed (g.R.Source.remaining l.fn.source)) (ahead l.input.feed (g.R.Source.remaining l.source)) false l.position;
-  lives : PassesLines g.D.Disk l.fn.position l.fn.replica l.replica (ahead l.fn.input.feed (g.R.Source.remaining l.fn.source)) (ahead l.input.feed (g.R.Source.remaining l.source)) l.position (Ok tt);
+  lives : PassesLines g.D.Disk l.base (λ j. ⊥) l.fn.position l.fn.replica l.replica (ahead l.fn.input.feed (g.R.Source.remaining l.fn.source)) (ahead l.input.feed (g.R.Source.remaining l.source)) l.position (g.W.Sink.contents l.fn.writer) (g.W.Sink.contents l.writer) (Ok tt);
   within : l.fn.position ≤ (facts_of g.D.Disk l.fn.replica).durable → l.position ≤ (facts_of g.D.Disk l.fn.replica).durable;
   told : (facts_of g.D.Disk l.replica).ahead ≡ [];
   source : g.R.Source.failed l.source ≡ g.R.Source.failed l.fn.source;

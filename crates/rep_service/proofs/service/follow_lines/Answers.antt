@@ -20,9 +20,9 @@ returns-in-Err-clause-lives g c =
 pub returns-in-Ok-clause-lives : goal.returns-in-Ok-clause-lives
 returns-in-Ok-clause-lives g c =
     followed_line g.D.Disk c.parts_are_joined.ensures _ _ _ _ _ _ _ _ _ _ _ _ _ c.follow_items-ended.result _ _ (ap (λ i. ahead i.feed (g.R.Source.remaining c.follow_items-ended.new.source)) c.count-2.ensures ∙ ap (λ i. ahead i.feed (g.R.Source.remaining c.follow_items-ended.new.source)) c.count.ensures) c.follow_items-ended.ensures.follows
-    c.in-Ok-Line.field-0 c.in-Ok-Line.is (rw c.in-Ok-Line.is at c.in-Ok-Line.field-0-is) _ (ap (λ i. i.line.items) c.count-2.ensures ∙ ap (λ i. i.line.items) c.count.ensures) _ _ (Ok tt) c.in-Ok.ensures.takes
+    c.in-Ok-Line.field-0 c.in-Ok-Line.is (rw c.in-Ok-Line.is at c.in-Ok-Line.field-0-is) _ (ap (λ i. i.line.items) c.count-2.ensures ∙ ap (λ i. i.line.items) c.count.ensures) _ _ _ (Ok tt) c.in-Ok.ensures.takes
 
 pub returns-in-Err-follow_line-clause-lives : goal.returns-in-Err-follow_line-clause-lives
 returns-in-Err-follow_line-clause-lives g c =
     followed_line g.D.Disk c.parts_are_joined.ensures _ _ _ _ _ _ _ _ _ _ _ _ _ c.follow_items-ended.result _ _ (ap (λ i. ahead i.feed (g.R.Source.remaining c.follow_items-ended.new.source)) c.count-2.ensures ∙ ap (λ i. ahead i.feed (g.R.Source.remaining c.follow_items-ended.new.source)) c.count.ensures) c.follow_items-ended.ensures.follows
-    c.in-Ok-Line.field-0 c.in-Ok-Line.is (rw c.in-Ok-Line.is at c.in-Ok-Line.field-0-is) _ (ap (λ i. i.line.items) c.count-2.ensures ∙ ap (λ i. i.line.items) c.count.ensures) _ _ (Err c.in-Err-follow_line.refusal) c.in-Err-follow_line.ensures.takes
+    c.in-Ok-Line.field-0 c.in-Ok-Line.is (rw c.in-Ok-Line.is at c.in-Ok-Line.field-0-is) _ (ap (λ i. i.line.items) c.count-2.ensures ∙ ap (λ i. i.line.items) c.count.ensures) _ _ _ (Err c.in-Err-follow_line.refusal) c.in-Err-follow_line.ensures.takes

@@ -4,7 +4,7 @@ use Rattle.rep_service.proofs.Lives.{lives_none, lives_goes}
 use Rattle.rep_service.proofs.service.take_stated.Goals as goal
 
 pub returns-in_default-clause-lives : goal.returns-in_default-clause-lives
-returns-in_default-clause-lives g c = ([], lives_none g.D.Disk c.parts_are_joined.ensures c.args.replica.now (Err Exhausted))
+returns-in_default-clause-lives g c = ([], lives_none g.D.Disk c.parts_are_joined.ensures c.args.replica.now _ (Err Exhausted))
 
 pub returns-in-Err-clause-lives : goal.returns-in-Err-clause-lives
 returns-in-Err-clause-lives g c = (c.in-Err.ensures.goes.receipts, lives_goes g.D.Disk c.args.replica.now c.take.new.replica [] _ _ _ _ (Err c.in-Err.refusal) c.in-Err.ensures.goes)
