@@ -1,3 +1,5 @@
 pub mod Putting
 pub mod Repeats
 pub mod Chains
+pub mod Blanks
+pub mod RowBytes

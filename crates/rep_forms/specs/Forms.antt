@@ -1,5 +1,5 @@
 -- Forms of bytes: which values have a spelling, what it is, and what a reader takes from the front of bytes.
-use Rattle.std.specs.Prelude.{◌≡◌, ℕ, zero, suc, ◌^◌, ◌<◌, ◌≤◌, ◌==◌, Bool, nat_lt, if◌then◌else◌, List, [], ◌∷◌, ◌++◌, length, take, drop, replicate, Option, None, Some, IfSome}
+use Rattle.std.specs.Prelude.{◌≡◌, ℕ, zero, suc, ◌^◌, ◌<◌, ◌≤◌, ◌==◌, Bool, true, nat_lt, if◌then◌else◌, List, [], ◌∷◌, ◌++◌, length, take, drop, replicate, Option, None, Some, IfSome}
 use Rattle.std.specs.List.{flat_map, list_all, AllByRecursion}
 use Rattle.byteorder.specs.Endian.{big_bytes, big_number}
 use Rattle.rep_forms.specs.Options.{◌>>=◌}
@@ -118,6 +118,11 @@ as_named F Fits spell = record { Fits = Fits; spell = spell; read = F.read }
 pub record TakesFront {A : Type 0} (F : Form A) (bytes : List ℕ) (result : Option (A × List ℕ)) : Type 0 where
   pub found : IfSome result (λ x. F.Fits x.0 × (bytes ≡ F.spell x.0 ++ x.1))
   pub only : (x : A) (rest : List ℕ) → F.Fits x → bytes ≡ F.spell x ++ rest → result ≡ Some (x, rest)
+
+-- Whether all of the bytes are the spelling of a value, and of which.
+pub record TakesAll {A : Type 0} (F : Form A) (bytes : List ℕ) (result : Bool) (value : A) : Type 0 where
+  pub found : result ≡ true → F.Fits value × (bytes ≡ F.spell value)
+  pub only : (x : A) → F.Fits x → bytes ≡ F.spell x → (result ≡ true) × (value ≡ x)
 
 -- What stands behind a front, where the bytes begin with it.
 pub record Strips (front bytes : List ℕ) (result : Option (List ℕ)) : Type 0 where

@@ -21,5 +21,5 @@ pub use numbers::{
     are_blank, put_bytes, put_u8, put_u16, put_u32, put_u64, put_zeros, read_part, read_u8,
     read_u16, read_u32, read_u64, strip_front,
 };
-pub use row::{ROW, rows_have_one_size};
+pub use row::{ROW, are_rows, push_rows, rows_have_one_size};
 pub use run::{Run, follows, put_run, read_chain, read_run};

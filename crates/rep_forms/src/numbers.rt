@@ -1,6 +1,6 @@
 //! Numbers and bytes.
 
-ghost use Rattle.std.specs.Prelude.{◌≡◌, ◌+◌, ◌≤◌, ◌++◌, length, option_map, IfSome, ◌*◌};
+ghost use Rattle.std.specs.Prelude.{◌≡◌, ◌+◌, ◌≤◌, ◌++◌, length, take, option_map, IfSome, ◌*◌};
 ghost use Rattle.rep_forms.specs.Forms.{Puts, Strips, number, byte, part, part_of, first_byte, zeros, are_blank};
 
 use crate::form::{Form, Put};
@@ -57,11 +57,66 @@ pub fn read_u64(bytes: &[u8]) -> Option<(u64, &[u8])>
     Some((BigEndian::read_u64(part), rest))
 }
 
+/// Whether the first 8 bytes are zero: the number that they spell is.
+#[tactic(auto, using(crate::proofs::Blanks::word_blank))]
+fn is_word_blank(bytes: &[u8]) -> bool
+    requires { 8 ≤ length bytes.now }
+    ensures { result ≡ are_blank (take 8 bytes.now) }
+{
+    BigEndian::read_u64(bytes) == 0
+}
+
+/// Whether the first 16 bytes are zero.
+#[tactic(auto, using(crate::proofs::Blanks::pair_blank))]
+fn is_pair_blank(bytes: &[u8]) -> bool
+    requires { 16 ≤ length bytes.now }
+    ensures { result ≡ are_blank (take 16 bytes.now) }
+{
+    is_word_blank(bytes) & is_word_blank(&bytes[8..])
+}
+
+/// Whether the first 32 bytes are zero.
+#[tactic(auto, using(crate::proofs::Blanks::pair_blank))]
+fn is_block_blank(bytes: &[u8]) -> bool
+    requires { 32 ≤ length bytes.now }
+    ensures { result ≡ are_blank (take 32 bytes.now) }
+{
+    is_pair_blank(bytes) & is_pair_blank(&bytes[16..])
+}
+
+/// Whether all of at most 64 bytes are zero. The words at the front and those at the end, which may overlap, are
+/// all of them.
+#[tactic(auto, using(crate::proofs::Blanks::ends_blank))]
+pub(crate) fn are_few_blank(bytes: &[u8]) -> bool
+    requires { length bytes.now ≤ 64 }
+    ensures { result ≡ are_blank bytes.now }
+{
+    let size = bytes.len();
+    if size >= 32 {
+        return is_block_blank(bytes) & is_block_blank(&bytes[size - 32..]);
+    }
+    if size >= 16 {
+        return is_pair_blank(bytes) & is_pair_blank(&bytes[size - 16..]);
+    }
+    if size >= 8 {
+        return is_word_blank(bytes) & is_word_blank(&bytes[size - 8..]);
+    }
+    bytes.iter().all(|byte| *byte == 0)
+}
+
 /// Whether all of the bytes are zero, as those behind the last field of a form; true of no bytes.
 pub fn are_blank(bytes: &[u8]) -> bool
     ensures { result ≡ are_blank bytes.now }
 {
-    bytes.iter().all(|byte| *byte == 0)
+    let mut rest = bytes;
+    for _ in 0..bytes.len() / BLANK {
+        let (block, after) = rest.split_at(BLANK);
+        if !are_few_blank(block) {
+            return false;
+        }
+        rest = after;
+    }
+    are_few_blank(rest)
 }
 
 /// Puts the bytes at the end. `out` has room for them: whoever calls keeps within the length that the
@@ -116,7 +171,7 @@ pub fn put_u64<const N: usize>(out: &mut ArrayVec<u8, N>, value: u64)
     put_bytes(out, &bytes);
 }
 
-/// How many zeros are put at a time.
+/// How many zeros are put at a time, and how many are looked at.
 const BLANK: usize = 64;
 
 /// Puts so many times 64 zeros at the end. `out` has room for them.

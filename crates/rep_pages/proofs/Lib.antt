@@ -2,3 +2,4 @@ pub mod Bodies
 pub mod Unchanged
 pub mod Following
 pub mod Imaging
+pub mod Counting

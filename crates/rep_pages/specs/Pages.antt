@@ -1,5 +1,5 @@
 -- Pages as bytes: what a page says, and the one spelling that it has.
-use Rattle.std.specs.Prelude.{◌≡◌, ◌≢◌, ℕ, ◌<◌, ◌^◌, List, ◌∷◌, ◌++◌, length, codes, Some, None}
+use Rattle.std.specs.Prelude.{◌≡◌, ◌≢◌, ℕ, ◌<◌, ◌≤◌, ◌^◌, List, ◌∷◌, ◌++◌, length, codes, Some, None}
 use Rattle.std.specs.List.{flat_map, AllByRecursion}
 use Rattle.rep_types.specs.declared.limits.TheConstants.{ROWS_PER_PAGE}
 use Rattle.rep_types.specs.declared.key.Key.{Key}
@@ -23,6 +23,12 @@ IsPastRows schema page index = (key : Key) → IsRow schema key → row_place sc
 pub record IsFirstRow (schema : List ℕ) (page : ℕ) (first : Key) : Type 0 where
   pub row : IsRow schema first
   pub there : row_place schema first ≡ place page 0
+
+-- So many rows of the schema lie in the page, at its first places.
+pub record IsRowCount (schema : List ℕ) (page count : ℕ) : Type 0 where
+  pub few : count ≤ ROWS_PER_PAGE
+  pub there : (index : ℕ) → index < count → (key : Key) × IsRow schema key × (row_place schema key ≡ place page index)
+  pub past : (index : ℕ) → count ≤ index → index < ROWS_PER_PAGE → IsPastRows schema page index
 
 -- Rows past the end of the page's table are absent.
 abbrev pub EndWithTheTable : List ℕ → ℕ → Rows → Type 0
@@ -74,6 +80,13 @@ head_form = as_named head_fields HeadFits head_bytes
 -- A page, of 4,096 bytes.
 abbrev pub page_bytes : Key → Page → List ℕ
 page_bytes first page = head_bytes (head_of first page) ++ flat_map row_bytes page.rows
+
+-- The bytes begin with the head of the page of this number, as it was written for a position, and the body is behind that.
+pub record BeginsPage (schema : List ℕ) (number position : ℕ) (bytes body : List ℕ) : Type 0 where
+  pub first : Key
+  pub begins : IsFirstRow schema number first
+  pub head : HeadFits (record { number = number; first = first; position = position })
+  pub spelled : bytes ≡ head_bytes (record { number = number; first = first; position = position }) ++ body
 
 -- These bytes are a page of the schema: its spelling.
 pub record IsPageBody (schema : List ℕ) (page : Page) (bytes : List ℕ) : Type 0 where

@@ -9,7 +9,7 @@ use rep_types::{ROWS_PER_PAGE, Value};
 use std::marker::Model;
 
 /// The rows of a page, as the length of a list.
-const COUNT: usize = ROWS_PER_PAGE as usize;
+pub(crate) const COUNT: usize = ROWS_PER_PAGE as usize;
 
 /// The number of bytes of the rows of a page.
 const ROWS: usize = ROW * COUNT;
@@ -52,6 +52,14 @@ impl PageRows {
         ensures { result ≡ rows.items }
     {
         PageRows { rows }
+    }
+
+    /// The rows by their places, each as `row` gives it.
+    pub(crate) fn as_slice(&self) -> &[Option<Value>]
+        ensures rows { result.now ≡ self.now }
+        ensures size { length result.now ≡ 63 }
+    {
+        self.rows.as_slice()
     }
 
     /// What is stored in the row at this place; None where the row is absent, and from 63 on.

@@ -42,7 +42,7 @@ fn read_page<D: Disk>(
         return Err(Refusal::DiskFault);
     }
     let schema = superblock.params.schema();
-    Page::read_body(schema, number, superblock.position, room)?;
+    Page::check_body(schema, number, superblock.position, room)?;
     Ok(())
 }
 

@@ -14,18 +14,18 @@ use Rattle.rep_recover.specs.Looking.{RefusesPart, HasBadPage}
 use Rattle.rep_recover.proofs.Choosing.{readable}
 use Rattle.rep_recover.proofs.pages.read_page.Goals as goal
 
-pub returns-in_err-read_body-clause-refused : goal.returns-in_err-read_body-clause-refused
-returns-in_err-read_body-clause-refused g c =
+pub returns-in_err-check_body-clause-refused : goal.returns-in_err-check_body-clause-refused
+returns-in_err-check_body-clause-refused g c =
     let l = layout_of c.args.cells.now in
     let disk = disk_of c.args.cells.now in
     let h : History = g.D.Disk.history disk in
     let r = reading_of l (seen h) in
     let b : SuperBody = c.args.superblock.now in
     let bytes : List ℕ = c.read_area.new.room in
-    let e = c.in_err-read_body.ensures in
+    let e = c.in_err-check_body.ensures in
     let place = Page c.args.number c.in-In.slot in
     let P : Refusal → Type 0 = RefusesPart Pages (g.D.Disk.honest disk → failed h ≡ [] → HasBadPage r b) in
-    let refuses : P c.in_err-read_body.field-0.0 = inr (
+    let refuses : P c.in_err-check_body.field-0.0 = inr (
       e.refused,
       λ honest none.
           let shown : Some bytes ≡ r place = of_no_failure {P = _} c.read_area.result (sym c.is_err.ensures.value ∙ c.if-is_err.false) (c.read_area.ensures.read honest (readable l h place none)) in
