@@ -1,5 +1,5 @@
 -- What the disks that fail some calls on purpose show, and one on a file.
-use Rattle.std.specs.Prelude.{◌≡◌, ◌↔◌, ℕ, zero, suc, ◌-◌, Bool, true, false, Option, None, Some, Result, IsErr}
+use Rattle.std.specs.Prelude.{◌≡◌, ◌↔◌, ℕ, zero, suc, ◌+◌, ◌-◌, Bool, true, false, Option, None, Some, Result, Ok, Err, IsErr}
 use Rattle.rep_disk.specs.declared.disk.DiskFault.{DiskFault}
 use Rattle.rep_disk.specs.declared.file.FileDisk.{FileDisk}
 use Rattle.rep_disk.specs.declared.faulty.Call.{Call}
@@ -8,7 +8,7 @@ use Rattle.rep_disk.specs.declared.faulty.FaultyDisk.{FaultyDisk}
 use Rattle.rep_disk.specs.declared.fuse.Fuse.{Fuse}
 use Rattle.rep_disk.specs.declared.fault_once.Once.{Once}
 use Rattle.rep_disk.specs.declared.held.Held.{Held}
-use Rattle.rep_disk.specs.Calls.{IsCall}
+use Rattle.rep_disk.specs.Calls.{IsCall, capped}
 
 -- A call that fails on purpose answers a fault and leaves the disk inside untouched.
 pub record IsRefused {D T : Type 0} (old new : D) (result : Result T DiskFault) : Type 0 where
@@ -81,3 +81,12 @@ file_size disk = disk.size
 -- whether a sync of it has failed
 abbrev pub file_lost : {F : Type 0} → FileDisk F → Bool
 file_lost disk = disk.lost
+
+-- how many of its syncs ended well
+abbrev pub file_syncs : {F : Type 0} → FileDisk F → ℕ
+file_syncs disk = disk.syncs
+
+-- how many they are behind one that ended so
+abbrev pub syncs_behind : ℕ → Result (Unit {0}) DiskFault → ℕ
+syncs_behind syncs (Ok x) = capped (syncs + 1)
+syncs_behind syncs (Err e) = syncs

@@ -37,10 +37,12 @@ pub struct FileDisk<F: FileExt + OpenFile + Drop> {
     failures: u64,
     /// A sync has failed.
     lost: bool,
+    /// How many syncs ended well.
+    syncs: u64,
 }
 
 impl<F: FileExt + OpenFile + Drop> FileDisk<F> {
-    ghost use Rattle.rep_disk.specs.Fuses.{file_inside, file_size, file_failures, file_lost};
+    ghost use Rattle.rep_disk.specs.Fuses.{file_inside, file_size, file_failures, file_lost, file_syncs};
 
     /// A disk on an open file, which can be read and written. Its size is the file's length at this
     /// moment. Refuses where the system does not tell the length.
@@ -56,13 +58,22 @@ impl<F: FileExt + OpenFile + Drop> FileDisk<F> {
         ensures sized { file_size result ≡ size }
         ensures unfailed { file_failures result ≡ 0 }
         ensures kept { file_lost result ≡ false }
+        ensures unsynced { file_syncs result ≡ 0 }
     {
         FileDisk {
             file,
             size,
             failures: 0,
             lost: false,
+            syncs: 0,
         }
+    }
+
+    /// How many syncs ended well, of those that it was asked for. At 2^64 - 1 the count stays.
+    pub fn syncs(&self) -> u64
+        ensures { result ≡ file_syncs self.now }
+    {
+        self.syncs
     }
 
     /// Gives the file back.
@@ -163,7 +174,7 @@ impl FileDisk<File> {
 }
 
 impl<F: FileExt + OpenFile + Drop> Disk for FileDisk<F> {
-    ghost use Rattle.rep_disk.specs.Fuses.{file_size, file_lost};
+    ghost use Rattle.rep_disk.specs.Fuses.{file_size, file_lost, file_syncs, syncs_behind};
 
     ghost size = { λ f. f.size };
 
@@ -187,6 +198,7 @@ impl<F: FileExt + OpenFile + Drop> Disk for FileDisk<F> {
         requires { at + length out.old ≤ file_size self.old }
         ensures disk { IsRead ⟦<FileDisk<F> as Disk>⟧.size ⟦<FileDisk<F> as Disk>⟧.failures ⟦<FileDisk<F> as Disk>⟧.honest ⟦<FileDisk<F> as Disk>⟧.history at out.new self.old self.new result }
         ensures lost { file_lost self.new ≡ file_lost self.old }
+        ensures syncs { file_syncs self.new ≡ file_syncs self.old }
     {
         let outcome = self.file.read_exact_at(out, at as u64);
         counted(outcome, &mut self.failures)
@@ -196,6 +208,7 @@ impl<F: FileExt + OpenFile + Drop> Disk for FileDisk<F> {
         requires { at + length bytes.now ≤ file_size self.old }
         ensures disk { IsWrite ⟦<FileDisk<F> as Disk>⟧.size ⟦<FileDisk<F> as Disk>⟧.failures ⟦<FileDisk<F> as Disk>⟧.honest ⟦<FileDisk<F> as Disk>⟧.history at bytes.now self.old self.new result }
         ensures lost { file_lost self.new ≡ file_lost self.old }
+        ensures syncs { file_syncs self.new ≡ file_syncs self.old }
     {
         let outcome = self.file.write_all_at(bytes, at as u64);
         counted(outcome, &mut self.failures)
@@ -205,12 +218,16 @@ impl<F: FileExt + OpenFile + Drop> Disk for FileDisk<F> {
         ensures disk { IsSync ⟦<FileDisk<F> as Disk>⟧.size ⟦<FileDisk<F> as Disk>⟧.failures ⟦<FileDisk<F> as Disk>⟧.honest ⟦<FileDisk<F> as Disk>⟧.history self.old self.new result }
         ensures lost { file_lost self.new ≡ is_err result }
         ensures for_good { file_lost self.old ≡ true → IsErr result }
+        ensures syncs { file_syncs self.new ≡ syncs_behind (file_syncs self.old) result }
     {
         if self.lost {
             return counted(Err(DiskFault), &mut self.failures);
         }
         let outcome = self.file.sync_data();
         self.lost = outcome.is_err();
+        if !self.lost {
+            self.syncs = self.syncs.saturating_add(1);
+        }
         counted(outcome, &mut self.failures)
     }
 }

@@ -8,7 +8,7 @@ use crate::target::Target;
 use crate::waiting::Use;
 use crate::{have_in_file, text_fault};
 use rep_reasons::{Cause, Fault, Form, Noted, Text};
-use rep_service::{CountedDisk, Exchange, follow_on_disk};
+use rep_service::{Exchange, follow_on_disk};
 use rep_streams::{ReaderSource, WriterSink};
 use rep_transfer::Have;
 use rep_types::Refusal;
@@ -100,20 +100,13 @@ pub fn follow_file<'a, R: Files<File = File> + Input + Print + AllocGlobal + Clo
     let mut output = Noted::new(io::writer(rt));
     let (disk, outcome) = follow_on_disk(
         rt.alloc(),
-        CountedDisk::new(disk),
+        disk,
         &mut ReaderSource::new(&mut input),
         &mut WriterSink::new(&mut output),
         &mut FileExchange { rt, disk: path },
     );
     match outcome {
         Ok(()) => Ok(()),
-        Err(refusal) => Err(text_fault(
-            disk.into_inner(),
-            path,
-            &input,
-            Form::Followed,
-            &output,
-            refusal,
-        )),
+        Err(refusal) => Err(text_fault(disk, path, &input, Form::Followed, &output, refusal)),
     }
 }

@@ -1,6 +1,5 @@
 pub mod Lines
 pub mod Exchanges
-pub mod Syncs
 pub mod Inputs
 pub mod Rows
 pub mod Saying

@@ -7,11 +7,11 @@ ghost use Rattle.rep_requests.specs.Requests.{said_of};
 ghost use Rattle.rep_replica.specs.Replicas.{facts_of};
 ghost use Rattle.rep_service.specs.Commanding.{EndsNode, Refuses, TellsRows, TellsSumOf, TellsDonation, TellsOwn, IsStateOf, IsLimitsOf, IsLevelOf, AreCountersOf, awaited, ComesOf, done_of, DoesAt};
 
-use crate::counted::CountsSyncs;
 use crate::counters::{Level, write_level};
 use crate::donating::donate_between;
 use crate::exchange::Exchange;
 use crate::rows::{read_rows, write_rows};
+use crate::syncs::CountsSyncs;
 use rep_disk::Disk;
 use rep_follow::{Counts, commit};
 use rep_replica::Replica;

@@ -3,7 +3,6 @@
 #![tactic(auto)]
 
 mod commands;
-mod counted;
 mod counters;
 mod donating;
 mod durable;
@@ -16,10 +15,11 @@ mod past;
 mod rows;
 mod same;
 mod service;
+mod syncs;
 
-pub use counted::{CountedDisk, CountsSyncs};
 pub use exchange::Exchange;
 pub use service::{follow_on_disk, followers_are_fed};
+pub use syncs::CountsSyncs;
 
 #[cfg(test)]
 mod tests;

@@ -11,10 +11,10 @@ ghost use Rattle.rep_service.specs.Passing.{Passes, PassesOld, PassesRecords};
 ghost use Rattle.rep_service.specs.Living.{HandsLines, Reaches, PassesLines, IsOfLog};
 
 use crate::commands::answer;
-use crate::counted::CountsSyncs;
 use crate::durable::{answer_durable, write_old};
 use crate::exchange::Exchange;
 use crate::input::Input;
+use crate::syncs::CountsSyncs;
 use rep_disk::Disk;
 use rep_follow::{Counts, going_is_joined, parts_are_joined};
 use rep_layout::LOG_BODY;

@@ -18,11 +18,11 @@ ghost use Rattle.rep_service.specs.Inputs.{counted};
 ghost use Rattle.rep_service.specs.Serving.{is_of_line, EndsText, EndsOnDisk};
 
 use crate::commands::answer;
-use crate::counted::CountsSyncs;
 use crate::exchange::Exchange;
 use crate::input::Input;
 use crate::opening::open_order;
 use crate::past::pass_durable;
+use crate::syncs::CountsSyncs;
 use rep_disk::Disk;
 use rep_follow::{
     Counts, End, commit, finish, follow_items, going_is_joined, parts_are_joined, take,

@@ -1,7 +1,9 @@
 //! Whole texts that a node in memory follows, and what it writes of them.
 
-use crate::{CountedDisk, Exchange, follow_on_disk};
-use rep_disk::MemDisk;
+ghost use Rattle.std.specs.Prelude.{[]};
+
+use crate::{CountsSyncs, Exchange, follow_on_disk};
+use rep_disk::{Disk, DiskFault, MemDisk};
 use rep_layout::need;
 use rep_recover::format_disk;
 use rep_streams::{MemorySink, MemorySource};
@@ -53,6 +55,59 @@ impl Exchange for Names {
     }
 }
 
+/// A disk in memory that counts the syncs that end well.
+#[derive(Drop)]
+struct Counted {
+    disk: MemDisk,
+    syncs: u64,
+}
+
+impl CountsSyncs for Counted {
+    ghost synced = { λ counted. counted.syncs };
+
+    fn syncs(&self) -> u64 {
+        self.syncs
+    }
+}
+
+impl Disk for Counted {
+    ghost use Rattle.rep_disk.specs.History.{Begins};
+
+    ghost size = { λ counted. ⟦<MemDisk as Disk>⟧.size counted.disk };
+
+    ghost failures = { λ counted. ⟦<MemDisk as Disk>⟧.failures counted.disk };
+
+    ghost history = { λ _. Begins [] };
+
+    ghost honest = { λ _. ⊥ };
+
+    ghost sized = { λ counted honest. absurd honest };
+
+    fn size(&self) -> usize {
+        self.disk.size()
+    }
+
+    fn failures(&self) -> u64 {
+        self.disk.failures()
+    }
+
+    fn read_at(&mut self, at: usize, out: &mut [u8]) -> Result<(), DiskFault> {
+        self.disk.read_at(at, out)
+    }
+
+    fn write_at(&mut self, at: usize, bytes: &[u8]) -> Result<(), DiskFault> {
+        self.disk.write_at(at, bytes)
+    }
+
+    fn sync(&mut self) -> Result<(), DiskFault> {
+        let outcome = self.disk.sync();
+        if outcome.is_ok() {
+            self.syncs = self.syncs.saturating_add(1);
+        }
+        outcome
+    }
+}
+
 /// A new disk in memory, of a window of 4, a log of 4 cells, and 126 rows.
 fn disk(alloc: Global, is_of_cluster: bool) -> Result<MemDisk, Refusal> {
     let params = Params::new(4, 4, &[126])?;
@@ -83,12 +138,12 @@ fn followed(
     };
     let (disk, outcome) = follow_on_disk(
         alloc,
-        CountedDisk::new(disk),
+        Counted { disk, syncs: 0 },
         &mut source,
         &mut sink,
         &mut names,
     );
-    Ok((disk.into_inner(), sink, outcome))
+    Ok((disk.disk, sink, outcome))
 }
 
 /// Whether these texts are followed so, one after another on one disk: this is written of the last, which ends so.
