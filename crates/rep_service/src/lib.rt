@@ -20,6 +20,3 @@ mod syncs;
 pub use exchange::Exchange;
 pub use service::{follow_on_disk, followers_are_fed};
 pub use syncs::CountsSyncs;
-
-#[cfg(test)]
-mod tests;
