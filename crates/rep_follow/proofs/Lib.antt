@@ -6,6 +6,7 @@ pub mod Feeds
 pub mod Groups
 pub mod Joins
 pub mod Noting
+pub mod Parts
 pub mod Settled
 pub mod Stops
 pub mod Followers

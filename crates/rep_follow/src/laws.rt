@@ -5,14 +5,20 @@ ghost use Rattle.rep_follow.specs.Followers.{FollowersFollowTheOrder};
 
 use rep_disk::Disk;
 use rep_replica::{asks_are_given_up, lives_with_snapshots_follow_the_order, runs_are_joined};
+use rep_steps::{nodes_hold_the_order, runs_answer_the_order, runs_come_to};
 
 /// Parts of a node's life one after another are one part. One in which nothing was done, in which the device was asked and nothing else was done,
 /// or in which a row was read delivers nothing and gives no reply. So who asks a replica between the calls of this crate has one life of them all.
+///
+/// A part that began at a node of an order leads to a node of it, with the items that were delivered; and its receipts are the order's replies.
 pub fn parts_are_joined<D: Disk>()
     ensures { PartsAreJoined D.Disk }
 {
     asks_are_given_up::<D>();
     runs_are_joined::<D>();
+    nodes_hold_the_order();
+    runs_come_to();
+    runs_answer_the_order();
 }
 
 /// The same of what is told and counted: the receipts of two parts stand one behind another, and their counters add up. Nothing is told or counted

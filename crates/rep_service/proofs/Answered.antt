@@ -10,8 +10,8 @@ use Rattle.rep_requests.specs.Requests.{Requested, Nothing, Published, Stated, R
 use Rattle.rep_follow.specs.Taking.{item_at, AreItems}
 use Rattle.rep_service.specs.Saying.{Said, answers_in, receipts_said}
 use Rattle.rep_service.specs.Living.{AnswersTo, AnswersLines, AreAnswered}
-use Rattle.rep_service.proofs.Saying.{answers_both, none_answered}
-use Rattle.rep_service.proofs.Lives.{Did, on_all}
+use Rattle.rep_service.proofs.Saying.{answers_both, none_answered, on_all}
+use Rattle.rep_service.proofs.Lives.{Did}
 
 pub on_both : {P Q : Type 0} (r : Result (Unit {0}) Refusal) → (P → Q) → OnOk r P → OnOk r Q
 on_both (Ok x) f p = f p
@@ -47,10 +47,6 @@ items_answer seqno (line ∷ lines) (i ∷ items) are = ([], [], refl, (0, no_an
 
 pub answered_whole : (lines : List (List ℕ)) (said : List Said) (r : Result (Unit {0}) Refusal) → AnswersLines lines (answers_in said) → AreAnswered lines said r
 answered_whole lines said r are = record { most = length lines; are = subst (λ l. AnswersLines l (answers_in said)) (sym (take-length lines)) are; all = on_all r are }
-
--- none of them, as far as that is known
-pub answered_none : (lines : List (List ℕ)) (said : List Said) (e : Refusal) → answers_in said ≡ [] → AreAnswered lines said (Err e)
-answered_none lines said e none = record { most = 0; are = none; all = tt }
 
 -- a front of them
 pub answered_front : (lines more : List (List ℕ)) (said : List Said) (e : Refusal) → AnswersLines lines (answers_in said) → AreAnswered (lines ++ more) said (Err e)

@@ -13,18 +13,19 @@ use Rattle.rep_replica.specs.Replicas.{Replica}
 use Rattle.rep_script.specs.Answering.{Tells, state_line}
 use Rattle.rep_follow.specs.Joining.{PartsAreJoined}
 use Rattle.rep_service.specs.Saying.{Said, State, receipts_said}
-use Rattle.rep_service.specs.Commanding.{window_in}
+use Rattle.rep_service.specs.Commanding.{window_in, HasWindow}
 use Rattle.rep_service.specs.Living.{Lives, ClosesWell}
-use Rattle.rep_service.proofs.Saying.{writes_told}
-use Rattle.rep_service.proofs.Lives.{on_all, lives_stays, lives_both}
+use Rattle.rep_service.proofs.Saying.{writes_told, on_all}
+use Rattle.rep_service.proofs.Ordered.{state_told}
+use Rattle.rep_service.proofs.Lives.{lives_stays, lives_both}
 
 -- the state is written behind what became durable last
-pub closes : {D : Type 0} (g : Ghosts D) → PartsAreJoined g → (old new : Replica D) (before written after : Option (List ℕ)) (receipts : List Reply) (r : Result (Unit {0}) Refusal) → Lives g old new [] (receipts_said receipts) before written (Ok tt) → (window : List Entry)
+pub closes : {D : Type 0} (g : Ghosts D) → PartsAreJoined g → (old new : Replica D) (before written after : Option (List ℕ)) (receipts : List Reply) (r : Result (Unit {0}) Refusal) → Lives g old new [] (receipts_said receipts) before written (Ok tt) → HasWindow g new → (window : List Entry)
     → window ≡ (window_in new).entries → Tells (state_line (gtid_of new.engine) new.engine.checkpoint.base.position window) written after r → IfErr r (λ e. e ≡ StreamFault) → (closing : List Said) × Lives g old new [] closing before after r × OnOk r (ClosesWell new closing)
-closes {D} g parts old new before written after receipts r lives window is told fault =
+closes {D} g parts old new before written after receipts r lives has window is told fault =
     let state : Said = State (gtid_of new.engine) new.engine.checkpoint.base.position (window_in new).entries in
     let told_so = subst (λ w. Tells (state_line (gtid_of new.engine) new.engine.checkpoint.base.position w) written after r) is told in
-    let line : Lives g new new [] (state ∷ []) written after r = lives_stays g new new (state ∷ []) written after r (record { follows = parts.none new; rests = λ rests. rests }) refl (writes_told state written after r told_so fault) in
+    let line : Lives g new new [] (state ∷ []) written after r = lives_stays g new new (state ∷ []) written after r (record { follows = parts.none new; rests = λ rests. rests }) refl (writes_told state written after r told_so fault) (λ n L rest holds of. (state_told g parts new has n L rest holds of, tt)) in
     (receipts_said receipts ++ state ∷ [], lives_both g parts old new new [] [] (receipts_said receipts) (state ∷ []) before written after r lives line, on_all r (receipts, refl))
 
 -- ---- a text that ended well

@@ -17,9 +17,10 @@ use Rattle.rep_follow.specs.Joining.{PartsAreJoined}
 use Rattle.rep_follow.specs.Taking.{text_of, taken_by, item_awaited, AreItems, items_in}
 use Rattle.rep_follow.specs.Following.{ended, FollowsItems}
 use Rattle.rep_service.specs.Saying.{Said, passed_in, answers_in, receipts_said}
-use Rattle.rep_service.specs.Living.{Lives, AnswersLines, AreAnswered, TakesItems, FollowsLines}
-use Rattle.rep_service.proofs.Saying.{none_both, none_passed, none_answered}
-use Rattle.rep_service.proofs.Lives.{Did, on_all, lives_none, lives_both, lives_as, lives_goes}
+use Rattle.rep_service.specs.Living.{Lives, NotWrongCluster, AnswersLines, AreAnswered, TakesItems, FollowsLines}
+use Rattle.rep_service.proofs.Saying.{none_both, none_passed, none_answered, on_all, own_ok}
+use Rattle.rep_service.proofs.Own.{own_items}
+use Rattle.rep_service.proofs.Lives.{Did, lives_none, lives_both, lives_as, lives_goes}
 use Rattle.rep_service.proofs.Answered.{on_both, items_answer, answered_whole, answered_front, answered_as, answered_both, answered_receipts, answered_line}
 use Rattle.rep_service.proofs.Items.{items_both, no_item, one_item, numbered_items}
 
@@ -40,8 +41,8 @@ front_both first lines more items then mid most one at two =
 
 module _ {D : Type 0} (g : Ghosts D) where
   -- it goes on, whatever comes of the rest that changes nothing
-  pub takes_as : (first : ℕ) (lines : List (List ℕ)) (old new : Replica D) (next : ℕ) (before after : Option (List ℕ)) (r : Result (Unit {0}) Refusal) → TakesItems g first lines old new next before after (Ok tt) → TakesItems g first lines old new next before after r
-  takes_as first lines old new next before after r takes = record {
+  pub takes_as : (first : ℕ) (lines : List (List ℕ)) (old new : Replica D) (next : ℕ) (before after : Option (List ℕ)) (r : Result (Unit {0}) Refusal) → NotWrongCluster r → TakesItems g first lines old new next before after (Ok tt) → TakesItems g first lines old new next before after r
+  takes_as first lines old new next before after r own takes = record {
     items = takes.items;
     said = takes.said;
     lives = lives_as g old new takes.items takes.said before after r takes.lives;
@@ -51,12 +52,13 @@ module _ {D : Type 0} (g : Ghosts D) where
     next_is = on_all r takes.next_is;
     none = takes.none;
     answers = answered_as lines takes.said r takes.answers;
+    own = own;
   }
 
   -- a front of them, behind which it ended
-  takes_front : (first : ℕ) (lines more : List (List ℕ)) (old new : Replica D) (items : List Item) (said : List Said) (next : ℕ) (before after : Option (List ℕ)) (e : Refusal) → items_in first lines ≡ items → Lives g old new items said before after (Err e) → passed_in said ≡ []
+  takes_front : (first : ℕ) (lines more : List (List ℕ)) (old new : Replica D) (items : List Item) (said : List Said) (next : ℕ) (before after : Option (List ℕ)) (e : Refusal) → NotWrongCluster (Err e) → items_in first lines ≡ items → Lives g old new items said before after (Err e) → passed_in said ≡ []
       → AnswersLines lines (answers_in said) → TakesItems g first (lines ++ more) old new next before after (Err e)
-  takes_front first lines more old new items said next before after e is lives none answers = record {
+  takes_front first lines more old new items said next before after e own is lives none answers = record {
     items = items;
     said = said;
     lives = lives;
@@ -66,6 +68,7 @@ module _ {D : Type 0} (g : Ghosts D) where
     next_is = tt;
     none = none;
     answers = answered_front lines more said e answers;
+    own = own;
   }
 
   -- the items that were taken, and all of them are the lines
@@ -81,12 +84,13 @@ module _ {D : Type 0} (g : Ghosts D) where
     next_is = at;
     none = none;
     answers = answers;
+    own = own_ok;
   }
 
   -- none was taken, and it ended
-  pub takes_not : (first : ℕ) (lines : List (List ℕ)) (old new : Replica D) (said : List Said) (next : ℕ) (before after : Option (List ℕ)) (e : Refusal) → Lives g old new [] said before after (Err e) → passed_in said ≡ [] → AreAnswered lines said (Err e)
+  pub takes_not : (first : ℕ) (lines : List (List ℕ)) (old new : Replica D) (said : List Said) (next : ℕ) (before after : Option (List ℕ)) (e : Refusal) → NotWrongCluster (Err e) → Lives g old new [] said before after (Err e) → passed_in said ≡ [] → AreAnswered lines said (Err e)
       → TakesItems g first lines old new next before after (Err e)
-  takes_not first lines old new said next before after e lives none answers = record { items = []; said = said; lives = lives; most = 0; are = refl; all = tt; next_is = tt; none = none; answers = answers }
+  takes_not first lines old new said next before after e own lives none answers = record { items = []; said = said; lives = lives; most = 0; are = refl; all = tt; next_is = tt; none = none; answers = answers; own = own }
 
   module _ (parts : PartsAreJoined g) where
     pub takes_both : (first mid next : ℕ) (lines more : List (List ℕ)) (old between new : Replica D) (before written after : Option (List ℕ)) (r : Result (Unit {0}) Refusal) → TakesItems g first lines old between mid before written (Ok tt)
@@ -101,6 +105,7 @@ module _ {D : Type 0} (g : Ghosts D) where
       next_is = on_both r (λ at. omega (arith, at, one.next_is, length-append one.items two.items)) two.next_is;
       none = none_both one.said two.said one.none two.none;
       answers = answered_both lines more one.said two.said r one.answers two.answers;
+      own = two.own;
     }
 
     -- ---- a line
@@ -109,12 +114,12 @@ module _ {D : Type 0} (g : Ghosts D) where
       pub line_none : Did g request old mid before between (Ok tt) → item_awaited next (requested 0 line) ≡ None → TakesItems g next (line ∷ []) old mid next before between (Ok tt)
       line_none did is = takes_all next (line ∷ []) old mid [] did.said next before between (no_item next line [] is) (omega arith) did.lives did.none (answered_line g number line request says old mid before between (Ok tt) did)
 
-      pub line_not : (e : Refusal) (last : ℕ) → Did g request old mid before between (Err e) → TakesItems g next (line ∷ []) old mid last before between (Err e)
-      line_not e last did = takes_not next (line ∷ []) old mid did.said last before between e did.lives did.none (answered_line g number line request says old mid before between (Err e) did)
+      pub line_not : (e : Refusal) (last : ℕ) → NotWrongCluster (Err e) → Did g request old mid before between (Err e) → TakesItems g next (line ∷ []) old mid last before between (Err e)
+      line_not e last own did = takes_not next (line ∷ []) old mid did.said last before between e own did.lives did.none (answered_line g number line request says old mid before between (Err e) did)
 
-      pub line_taken : (new : Replica D) (after : Option (List ℕ)) (receipts : List Reply) (i : Item) (last : ℕ) (r : Result (Unit {0}) Refusal) → Did g request old mid before between (Ok tt) → item_awaited next (requested 0 line) ≡ Some i
+      pub line_taken : (new : Replica D) (after : Option (List ℕ)) (receipts : List Reply) (i : Item) (last : ℕ) (r : Result (Unit {0}) Refusal) → NotWrongCluster r → Did g request old mid before between (Ok tt) → item_awaited next (requested 0 line) ≡ Some i
           → Lives g mid new (taken_by i r) (receipts_said receipts) between after r → OnOk r (last ≡ next + 1) → TakesItems g next (line ∷ []) old new last before after r
-      line_taken new after receipts i last r did is two at = by r two at
+      line_taken new after receipts i last r own did is two at = by r own two at
         where
           none : passed_in (did.said ++ receipts_said receipts) ≡ []
           none = none_both did.said (receipts_said receipts) did.none (none_passed receipts)
@@ -122,9 +127,9 @@ module _ {D : Type 0} (g : Ghosts D) where
           answers : (r : Result (Unit {0}) Refusal) → AreAnswered (line ∷ []) (did.said ++ receipts_said receipts) r
           answers r = answered_receipts (line ∷ []) did.said receipts r (answered_as (line ∷ []) did.said r (answered_line g number line request says old mid before between (Ok tt) did))
 
-          by : (r : Result (Unit {0}) Refusal) → Lives g mid new (taken_by i r) (receipts_said receipts) between after r → OnOk r (last ≡ next + 1) → TakesItems g next (line ∷ []) old new last before after r
-          by (Ok x) two at = takes_all next (line ∷ []) old new (i ∷ []) (did.said ++ receipts_said receipts) last before after (one_item next line [] i is) at (lives_both g parts old mid new [] (i ∷ []) did.said (receipts_said receipts) before between after (Ok tt) did.lives two) none (answers (Ok tt))
-          by (Err e) two at = takes_not next (line ∷ []) old new (did.said ++ receipts_said receipts) last before after e (lives_both g parts old mid new [] [] did.said (receipts_said receipts) before between after (Err e) did.lives two) none (answers (Err e))
+          by : (r : Result (Unit {0}) Refusal) → NotWrongCluster r → Lives g mid new (taken_by i r) (receipts_said receipts) between after r → OnOk r (last ≡ next + 1) → TakesItems g next (line ∷ []) old new last before after r
+          by (Ok x) mine two at = takes_all next (line ∷ []) old new (i ∷ []) (did.said ++ receipts_said receipts) last before after (one_item next line [] i is) at (lives_both g parts old mid new [] (i ∷ []) did.said (receipts_said receipts) before between after (Ok tt) did.lives two) none (answers (Ok tt))
+          by (Err e) mine two at = takes_not next (line ∷ []) old new (did.said ++ receipts_said receipts) last before after e mine (lives_both g parts old mid new [] [] did.said (receipts_said receipts) before between after (Err e) did.lives two) none (answers (Err e))
 
     -- ---- the lines
 
@@ -139,8 +144,8 @@ module _ {D : Type 0} (g : Ghosts D) where
       takes = takes_both first mid next one.lines two.lines old between new before written after r one.takes two.takes;
     }
 
-    pub lines_as : (first next : ℕ) (old new : Replica D) (text behind before after : Option (List ℕ)) (r : Result (Unit {0}) Refusal) → FollowsLines g first old new text behind next before after (Ok tt) → FollowsLines g first old new text behind next before after r
-    lines_as first next old new text behind before after r follows = record { lines = follows.lines; handed = follows.handed; takes = takes_as first follows.lines old new next before after r follows.takes }
+    pub lines_as : (first next : ℕ) (old new : Replica D) (text behind before after : Option (List ℕ)) (r : Result (Unit {0}) Refusal) → NotWrongCluster r → FollowsLines g first old new text behind next before after (Ok tt) → FollowsLines g first old new text behind next before after r
+    lines_as first next old new text behind before after r own follows = record { lines = follows.lines; handed = follows.handed; takes = takes_as first follows.lines old new next before after r own follows.takes }
 
     -- ---- numbered items
 
@@ -158,7 +163,7 @@ module _ {D : Type 0} (g : Ghosts D) where
           record {
             lines = f.lines;
             handed = subst (λ (o : Option (List ℕ)). Consumes text o (text_of f.lines)) (sym same) (subst (λ (o : List (List ℕ)). Consumes text behind (text_of o)) f.out_is f.handed);
-            takes = takes_all first f.lines old new f.items (receipts_said f.goes.receipts) next before after (numbered_items first f.lines f.items f.are) f.next_is (lives_goes g old new f.items was now before after (Ok tt) f.goes)
+            takes = takes_all first f.lines old new f.items (receipts_said f.goes.receipts) next before after (numbered_items first f.lines f.items f.are) f.next_is (lives_goes g parts old new f.items was now before after (Ok tt) f.goes)
                 (none_passed f.goes.receipts) (answered_whole f.lines (receipts_said f.goes.receipts) (Ok tt) (lines_of_items f.lines f.items f.goes.receipts f.are));
           }
 
@@ -169,7 +174,7 @@ module _ {D : Type 0} (g : Ghosts D) where
             lines = f.lines ++ last ∷ [];
             handed = subst (λ (o : Option (List ℕ)). Consumes text o (text_of (f.lines ++ last ∷ []))) (sym same) (subst (λ (o : List (List ℕ)). Consumes text behind (text_of o)) f.out_is f.handed);
             takes = takes_both first next at f.lines (last ∷ []) old new end before after written r
-                (takes_all first f.lines old new f.items (receipts_said f.goes.receipts) next before after (numbered_items first f.lines f.items f.are) f.next_is (lives_goes g old new f.items was now before after (Ok tt) f.goes)
+                (takes_all first f.lines old new f.items (receipts_said f.goes.receipts) next before after (numbered_items first f.lines f.items f.are) f.next_is (lives_goes g parts old new f.items was now before after (Ok tt) f.goes)
                 (none_passed f.goes.receipts) (answered_whole f.lines (receipts_said f.goes.receipts) (Ok tt) (lines_of_items f.lines f.items f.goes.receipts f.are)))
                 (subst (λ (l : List ℕ). TakesItems g next (l ∷ []) new end at after written r) line_is takes);
           }
@@ -177,10 +182,10 @@ module _ {D : Type 0} (g : Ghosts D) where
       pub followed_not : (e : Refusal) → ends ≡ Err e → FollowsLines g first old new text to next before after (Err e)
       followed_not e is =
           let f = subst Of is follows in
-          record { lines = f.out; handed = subst (λ (o : Option (List ℕ)). Consumes text o (text_of f.out)) (sym same) f.handed; takes = by f f.out_is }
+          record { lines = f.out; handed = subst (λ (o : Option (List ℕ)). Consumes text o (text_of f.out)) (sym same) f.handed; takes = by f (own_items g next new left asked rest f.lines last f.out e f.ends) f.out_is }
         where
-          by : (f : Of (Err e)) → (f.out ≡ f.lines) ⊎ (f.out ≡ f.lines ++ last ∷ []) → TakesItems g first f.out old new next before after (Err e)
-          by f (inl out) = subst (λ (o : List (List ℕ)). TakesItems g first o old new next before after (Err e)) (append-nil f.lines ∙ sym out)
-              (takes_front first f.lines [] old new f.items (receipts_said f.goes.receipts) next before after e (numbered_items first f.lines f.items f.are) (lives_goes g old new f.items was now before after (Err e) f.goes) (none_passed f.goes.receipts) (lines_of_items f.lines f.items f.goes.receipts f.are))
-          by f (inr out) = subst (λ (o : List (List ℕ)). TakesItems g first o old new next before after (Err e)) (sym out)
-              (takes_front first f.lines (last ∷ []) old new f.items (receipts_said f.goes.receipts) next before after e (numbered_items first f.lines f.items f.are) (lives_goes g old new f.items was now before after (Err e) f.goes) (none_passed f.goes.receipts) (lines_of_items f.lines f.items f.goes.receipts f.are))
+          by : (f : Of (Err e)) → NotWrongCluster (Err e) → (f.out ≡ f.lines) ⊎ (f.out ≡ f.lines ++ last ∷ []) → TakesItems g first f.out old new next before after (Err e)
+          by f own (inl out) = subst (λ (o : List (List ℕ)). TakesItems g first o old new next before after (Err e)) (append-nil f.lines ∙ sym out)
+              (takes_front first f.lines [] old new f.items (receipts_said f.goes.receipts) next before after e own (numbered_items first f.lines f.items f.are) (lives_goes g parts old new f.items was now before after (Err e) f.goes) (none_passed f.goes.receipts) (lines_of_items f.lines f.items f.goes.receipts f.are))
+          by f own (inr out) = subst (λ (o : List (List ℕ)). TakesItems g first o old new next before after (Err e)) (sym out)
+              (takes_front first f.lines (last ∷ []) old new f.items (receipts_said f.goes.receipts) next before after e own (numbered_items first f.lines f.items f.are) (lives_goes g parts old new f.items was now before after (Err e) f.goes) (none_passed f.goes.receipts) (lines_of_items f.lines f.items f.goes.receipts f.are))

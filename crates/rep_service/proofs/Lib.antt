@@ -4,6 +4,8 @@ pub mod Given
 pub mod Telling
 pub mod Noting
 pub mod Saying
+pub mod Ordered
+pub mod Own
 pub mod Answered
 pub mod Handing
 pub mod Closing

@@ -1,35 +1,37 @@
 -- Parts of a node's life, one after another.
 use Rattle.std.proofs.Common.{◌≡◌, ℕ, ◌⊎◌, inl, inr, List, [], ◌∷◌, ◌++◌, length, map, Option, None, Some, Result, Ok, Err, OnOk, refl, sym, ap, subst, ◌∙◌, arith}
-use Rattle.std.specs.Prelude.{IfSome}
+use Rattle.std.specs.Prelude.{take, IfOk, IfSome}
 use Rattle.rep_types.specs.declared.key.Key.{Key}
 use Rattle.rep_types.specs.declared.item.Item.{Item}
 use Rattle.rep_types.specs.declared.judged.Judged.{Judged}
 use Rattle.rep_types.specs.declared.reply.Reply.{Reply}
 use Rattle.rep_types.specs.declared.refusal.Refusal.{Refusal}
+use Rattle.rep_types.specs.Order.{Order, state}
 use Rattle.rep_disk.specs.declared.disk.Disk.{Ghosts}
 use Rattle.rep_log.specs.declared.phase.Phase.TheVariants.{Resting}
+use Rattle.rep_steps.specs.Nodes.{Node}
+use Rattle.rep_steps.specs.Orders.{IsOf}
 use Rattle.rep_engine.specs.Engines.{gtid_of}
 use Rattle.rep_replica.specs.Replicas.{Replica, facts_of}
+use Rattle.rep_replica.specs.Holding.{Holds}
 use Rattle.rep_replica.specs.Asking.{IsAsked}
 use Rattle.rep_replica.specs.Reading.{IsRead}
 use Rattle.rep_requests.specs.Requests.{Requested, Nothing, Published, Stated, Read as ReadsKeys, Sum as SumAt, State as OwnState, Limits as OwnLimits, Counters as OwnCounters, Donate, Refused as Wrong, Broken}
 use Rattle.rep_sum.specs.declared.sum.Sum.{Sum}
-use Rattle.rep_sum.specs.Sums.{RowRead, AreGiven, IsRefusedAt, sum_refusal, Sums, IsSumAt}
+use Rattle.rep_sum.specs.Sums.{RowRead, AreGiven, IsRefusedAt, sum_of, sum_refusal, Sums, IsSumAt}
 use Rattle.rep_script.specs.Answering.{Tells}
 use Rattle.rep_script.specs.Summing.{position_of}
 use Rattle.rep_follow.specs.declared.counts.Counts.{Counts}
 use Rattle.rep_follow.specs.Counting.{HasCounters}
 use Rattle.rep_follow.specs.Committing.{item_of, Follows, Goes, TellsAll}
 use Rattle.rep_follow.specs.Joining.{PartsAreJoined, GoingIsJoined}
-use Rattle.rep_service.specs.Rows.{ReadsRows}
-use Rattle.rep_service.specs.Saying.{Said, Rows, Summed, State, Limits, Counters, Donated, Writes, line_of, receipts_in, passed_in, answers_in, receipts_said}
+use Rattle.rep_service.specs.Rows.{ReadsRows, rows_of}
+use Rattle.rep_service.specs.Saying.{Said, Rows, Summed, State, Limits, Counters, Donated, Refused, Writes, line_of, receipts_in, passed_in, answers_in, receipts_said}
 use Rattle.rep_service.specs.Commanding.{TellsRead, TellsSummed, TellsDonated, TellsTransfer, window_in, IsStateOf, IsLimitsOf, AreCountersOf, DoesAt}
+use Rattle.rep_service.specs.Telling.{TellsTheOrder}
 use Rattle.rep_service.specs.Living.{Lives, IsOfKind, AnswersTo}
-use Rattle.rep_service.proofs.Saying.{receipts_both, answers_both, none_both, given_said, none_passed, none_answered, writes_none, writes_as, writes_both, writes_receipts, One, one_said, one_refuses, one_own}
-
-pub on_all : {T : Type 0} {P : Type 0} (r : Result T Refusal) → P → OnOk r P
-on_all (Ok x) p = p
-on_all (Err e) p = tt
+use Rattle.rep_service.proofs.Saying.{receipts_both, answers_both, none_both, given_said, none_passed, none_answered, writes_none, writes_as, writes_both, writes_receipts, on_all, One, one_said, one_refuses, one_own}
+use Rattle.rep_service.proofs.Ordered.{IsToldAt, tells_receipts, tells_both, rows_told, sum_told, state_told, limits_told}
 
 abbrev no_counts : Counts
 no_counts = record { items = 0; blocks = 0; checkpoints = 0; commit = 0; conflict = 0; stale = 0; future = 0; badkey = 0; unreadable = 0 }
@@ -51,16 +53,9 @@ pub record Did {D : Type 0} (g : Ghosts D) (request : Requested) (old new : Repl
   pub all : OnOk r (AnswersTo request (answers_in said))
 
 module _ {D : Type 0} (g : Ghosts D) where
-  pub lives_goes : (old new : Replica D) (items : List Item) (was now : Counts) (before after : Option (List ℕ)) (r : Result (Unit {0}) Refusal) (goes : Goes g old new items was now before after r) → Lives g old new items (receipts_said goes.receipts) before after r
-  lives_goes old new items was now before after r goes = record {
-    follows = subst (Follows g old new items) (sym (given_said goes.receipts)) goes.follows;
-    written = writes_receipts goes.receipts before after r goes.written;
-    rests = goes.rests;
-  }
-
   -- it went on, whatever comes of the rest that changes nothing
   pub lives_as : (old new : Replica D) (items : List Item) (said : List Said) (before after : Option (List ℕ)) (r : Result (Unit {0}) Refusal) → Lives g old new items said before after (Ok tt) → Lives g old new items said before after r
-  lives_as old new items said before after r lives = record { follows = lives.follows; written = writes_as said before after r lives.written; rests = λ rests. on_all r (lives.rests rests) }
+  lives_as old new items said before after r lives = record { follows = lives.follows; written = writes_as said before after r lives.written; told = lives.told; rests = λ rests. on_all r (lives.rests rests) }
 
   nothing_judged : (js : List Judged) → map item_of js ≡ [] → js ≡ []
   nothing_judged [] is = refl
@@ -81,22 +76,31 @@ module _ {D : Type 0} (g : Ghosts D) where
   pub lives_quiet : (old new : Replica D) (said : List Said) (before after : Option (List ℕ)) (r : Result (Unit {0}) Refusal) → (facts_of g old).ahead ≡ [] → Lives g old new [] said before after r → receipts_in said ≡ []
   lives_quiet old new said before after r none lives = none_given old new (receipts_in said) none lives.follows
 
-  pub lives_stays : (old new : Replica D) (said : List Said) (before after : Option (List ℕ)) (r : Result (Unit {0}) Refusal) → Stays g old new → receipts_in said ≡ [] → Writes said before after r → Lives g old new [] said before after r
-  lives_stays old new said before after r stays still written = record { follows = subst (Follows g old new []) (sym still) stays.follows; written = written; rests = λ rests. on_all r (stays.rests rests) }
+  pub lives_stays : (old new : Replica D) (said : List Said) (before after : Option (List ℕ)) (r : Result (Unit {0}) Refusal) → Stays g old new → receipts_in said ≡ [] → Writes said before after r → TellsTheOrder g old [] said → Lives g old new [] said before after r
+  lives_stays old new said before after r stays still written told = record { follows = subst (Follows g old new []) (sym still) stays.follows; written = written; told = told; rests = λ rests. on_all r (stays.rests rests) }
 
   -- it stays as far as what was said has no receipt
   pub stays_of : (old new : Replica D) (said : List Said) (before after : Option (List ℕ)) → receipts_in said ≡ [] → Lives g old new [] said before after (Ok tt) → Stays g old new
   stays_of old new said before after still lives = record { follows = subst (Follows g old new []) still lives.follows; rests = lives.rests }
 
   module _ (parts : PartsAreJoined g) where
+    pub lives_goes : (old new : Replica D) (items : List Item) (was now : Counts) (before after : Option (List ℕ)) (r : Result (Unit {0}) Refusal) (goes : Goes g old new items was now before after r) → Lives g old new items (receipts_said goes.receipts) before after r
+    lives_goes old new items was now before after r goes = record {
+      follows = subst (Follows g old new items) (sym (given_said goes.receipts)) goes.follows;
+      written = writes_receipts goes.receipts before after r goes.written;
+      told = tells_receipts g parts old new items goes.receipts goes.follows;
+      rests = goes.rests;
+    }
+
     pub lives_none : (r : Replica D) (text : Option (List ℕ)) (result : Result (Unit {0}) Refusal) → Lives g r r [] [] text text result
-    lives_none r text result = record { follows = parts.none r; written = writes_none text result; rests = λ rests. on_all result rests }
+    lives_none r text result = record { follows = parts.none r; written = writes_none text result; told = λ n L rest holds of. tt; rests = λ rests. on_all result rests }
 
     pub lives_both : (old mid new : Replica D) (items more : List Item) (first then : List Said) (before between after : Option (List ℕ)) (r : Result (Unit {0}) Refusal) → Lives g old mid items first before between (Ok tt) → Lives g mid new more then between after r
         → Lives g old new (items ++ more) (first ++ then) before after r
     lives_both old mid new items more first then before between after r one two = record {
       follows = subst (Follows g old new (items ++ more)) (sym (receipts_both first then)) (parts.both old mid new items more (receipts_in first) (receipts_in then) one.follows two.follows);
       written = writes_both first then before between after r one.written two.written;
+      told = tells_both g parts old mid items more first then one.follows one.told two.told;
       rests = λ rests. two.rests (one.rests rests);
     }
 
@@ -146,39 +150,53 @@ module _ {D : Type 0} (g : Ghosts D) where
         all = on_all r answers;
       }
 
+      -- the answer to what a line asks for, as the order has it
+      abbrev IsAnswer : Requested → Replica D → Said → Type 0
+      IsAnswer request old one = IsOfKind request one × IsToldAt g old one
+
+      tells_one : (request : Requested) (old : Replica D) (said : List Said) → (said ≡ []) ⊎ ((one : Said) × (said ≡ one ∷ []) × IsAnswer request old one) → TellsTheOrder g old [] said
+      tells_one request old said (inl none) = subst (TellsTheOrder g old []) (sym none) (λ n L rest holds of. tt)
+      tells_one request old said (inr (one, is, answer)) = subst (TellsTheOrder g old []) (sym is) (λ n L rest holds of. (answer.1 n L rest holds of, tt))
+
       -- one line was said, and nothing else done
-      says : (request : Requested) (IsOne : Said → Type 0) (old new : Replica D) (before after : Option (List ℕ)) (r : Result (Unit {0}) Refusal) → ((said : List Said) → ((one : Said) × (said ≡ one ∷ []) × IsOne one) → AnswersTo request said)
-          → Stays g old new → One IsOne before after r → Did g request old new before after r
-      says request IsOne old new before after r to stays one = record {
+      says : (request : Requested) (old new : Replica D) (before after : Option (List ℕ)) (r : Result (Unit {0}) Refusal) → ((said : List Said) → ((one : Said) × (said ≡ one ∷ []) × IsOfKind request one) → AnswersTo request said)
+          → Stays g old new → One (IsAnswer request old) before after r → Did g request old new before after r
+      says request old new before after r to stays one = record {
         said = one.said;
-        lives = lives_stays old new one.said before after r stays one.still one.writes;
+        lives = lives_stays old new one.said before after r stays one.still one.writes (tells_one request old one.said one.only);
         none = one.none;
         cut = by one.cut;
         all = on r one.all;
       }
         where
-          by : (answers_in one.said ≡ []) ⊎ ((x : Said) × (answers_in one.said ≡ x ∷ []) × IsOne x) → (answers_in one.said ≡ []) ⊎ AnswersTo request (answers_in one.said)
+          by : (answers_in one.said ≡ []) ⊎ ((x : Said) × (answers_in one.said ≡ x ∷ []) × IsAnswer request old x) → (answers_in one.said ≡ []) ⊎ AnswersTo request (answers_in one.said)
           by (inl none) = inl none
-          by (inr is) = inr (to (answers_in one.said) is)
+          by (inr (x, is, answer)) = inr (to (answers_in one.said) (x, is, answer.0))
 
-          on : (r : Result (Unit {0}) Refusal) → OnOk r ((x : Said) × (answers_in one.said ≡ x ∷ []) × IsOne x) → OnOk r (AnswersTo request (answers_in one.said))
-          on (Ok x) is = to (answers_in one.said) is
+          on : (r : Result (Unit {0}) Refusal) → OnOk r ((x : Said) × (answers_in one.said ≡ x ∷ []) × IsAnswer request old x) → OnOk r (AnswersTo request (answers_in one.said))
+          on (Ok y) (x, is, answer) = to (answers_in one.said) (x, is, answer.0)
           on (Err e) is = tt
 
       same_stays : (old new : Replica D) → new ≡ old → Stays g old new
       same_stays old new same = subst (λ x. Stays g old x) (sym same) (stays_none old)
 
-      rows_one : (keys : List Key) (at : ℕ) (old new : Replica D) (before after : Option (List ℕ)) (r : Result (Unit {0}) Refusal) (rows : Result (List RowRead) Refusal) → ReadsRows g at keys old rows new → TellsRead at rows before after r → One (IsOfKind (ReadsKeys keys)) before after r
-      rows_one keys at old new before after r (Ok rows) reads told = one_said (IsOfKind (ReadsKeys keys)) (Rows at rows) before after r refl refl refl reads.0 told.0 told.1
-      rows_one keys at old new before after r (Err e) reads told = one_refuses (IsOfKind (ReadsKeys keys)) e before after r (λ f. tt) told
+      -- a refusal
+      refused_one : (request : Requested) (old : Replica D) → ((f : Refusal) → IsOfKind request (Refused f)) → (f : Refusal) → IsAnswer request old (Refused f)
+      refused_one request old any f = (any f, λ n L rest holds of. tt)
 
-      sum_one : (asked : Option ℕ) (before after : Option (List ℕ)) (r : Result (Unit {0}) Refusal) (sum : Result Sum Refusal) → TellsSummed sum before after r → One (IsOfKind (SumAt asked)) before after r
-      sum_one asked before after r (Ok sum) told = one_said (IsOfKind (SumAt asked)) (Summed sum) before after r refl refl refl tt told.0 told.1
-      sum_one asked before after r (Err e) told = one_refuses (IsOfKind (SumAt asked)) e before after r (λ f. tt) told
+      rows_one : (keys : List Key) (old new : Replica D) (before after : Option (List ℕ)) (r : Result (Unit {0}) Refusal) (rows : Result (List RowRead) Refusal) → ReadsRows g (facts_of g old).durable keys old rows new → TellsRead (facts_of g old).durable rows before after r
+          → ((n : Node) (L : Order) → Holds g n old → IsOf L n → IfOk rows (λ xs. xs ≡ rows_of n.facts.setting L keys (facts_of g old).durable)) → One (IsAnswer (ReadsKeys keys) old) before after r
+      rows_one keys old new before after r (Ok rows) reads told order = one_said (IsAnswer (ReadsKeys keys) old) (Rows (facts_of g old).durable rows) before after r refl refl refl (reads.0, rows_told g parts old keys rows reads.0 order) told.0 told.1
+      rows_one keys old new before after r (Err e) reads told order = one_refuses (IsAnswer (ReadsKeys keys) old) e before after r (refused_one (ReadsKeys keys) old (λ f. tt)) told
 
-      donated_one : (have out : List ℕ) (before after : Option (List ℕ)) (r : Result (Unit {0}) Refusal) (donated : Result ℕ Refusal) → TellsDonated donated before after r → One (IsOfKind (Donate have out)) before after r
-      donated_one have out before after r (Ok last) told = one_said (IsOfKind (Donate have out)) (Donated last) before after r refl refl refl tt told.0 told.1
-      donated_one have out before after r (Err e) told = one_refuses (IsOfKind (Donate have out)) e before after r (λ f. tt) told
+      sum_one : (asked : Option ℕ) (old new : Replica D) (before after : Option (List ℕ)) (r : Result (Unit {0}) Refusal) (sum : Result Sum Refusal) → IsSumAt g (position_of g old asked) old sum new → TellsSummed sum before after r
+          → ((n : Node) (L : Order) → Holds g n old → IsOf L n → IfOk sum (λ s. s ≡ sum_of n.facts.uuid n.facts.setting.rows (state n.facts.setting (take (position_of g old asked) L)))) → One (IsAnswer (SumAt asked) old) before after r
+      sum_one asked old new before after r (Ok sum) taken told order = one_said (IsAnswer (SumAt asked) old) (Summed asked sum) before after r refl refl refl (refl, sum_told g parts old new asked sum taken order) told.0 told.1
+      sum_one asked old new before after r (Err e) taken told order = one_refuses (IsAnswer (SumAt asked) old) e before after r (refused_one (SumAt asked) old (λ f. tt)) told
+
+      donated_one : (have out : List ℕ) (old : Replica D) (before after : Option (List ℕ)) (r : Result (Unit {0}) Refusal) (donated : Result ℕ Refusal) → TellsDonated donated before after r → One (IsAnswer (Donate have out) old) before after r
+      donated_one have out old before after r (Ok last) told = one_said (IsAnswer (Donate have out) old) (Donated last) before after r refl refl refl (tt, λ n L rest holds of. tt) told.0 told.1
+      donated_one have out old before after r (Err e) told = one_refuses (IsAnswer (Donate have out) old) e before after r (refused_one (Donate have out) old (λ f. tt)) told
 
       -- behind receipts
       behind_receipts : (request : Requested) (old mid new : Replica D) (receipts : List Reply) (before between after : Option (List ℕ)) (r : Result (Unit {0}) Refusal) → Lives g old mid [] (receipts_said receipts) before between (Ok tt) → Did g request mid new between after r
@@ -197,7 +215,7 @@ module _ {D : Type 0} (g : Ghosts D) where
           → Did g (Donate have out) old new before after r
       transfers have out old mid new was now before between after (Ok x) r tells (asked, (donated, told)) =
           behind_receipts (Donate have out) old mid new tells.goes.receipts before between after r (lives_goes old mid [] was now before between (Ok tt) tells.goes)
-          (says (Donate have out) (IsOfKind (Donate have out)) mid new between after r (λ said is. is) (stays_asked mid new asked) (donated_one have out between after r donated told))
+          (says (Donate have out) mid new between after r (λ said is. is) (stays_asked mid new asked) (donated_one have out mid between after r donated told))
       transfers have out old mid new was now before between after (Err e) r tells (is, same, kept) =
           let lives = lives_goes old mid [] was now before between (Err e) tells.goes in
           record {
@@ -214,22 +232,22 @@ module _ {D : Type 0} (g : Ghosts D) where
       did (Stated i) old new was now before after r does = nothing (Stated i) old new before after r refl does.1
       did Broken old new was now before after r does = nothing Broken old new before after r refl does.1
       did (ReadsKeys keys) old new was now before after r does =
-          says (ReadsKeys keys) (IsOfKind (ReadsKeys keys)) old new before after r (λ said is. is) (stays_rows (facts_of g old).durable keys old new does.1.rows does.1.reads) (rows_one keys (facts_of g old).durable old new before after r does.1.rows does.1.reads does.1.told)
+          says (ReadsKeys keys) old new before after r (λ said is. is) (stays_rows (facts_of g old).durable keys old new does.1.rows does.1.reads) (rows_one keys old new before after r does.1.rows does.1.reads does.1.told does.1.order)
       did (SumAt at) old new was now before after r does =
-          says (SumAt at) (IsOfKind (SumAt at)) old new before after r (λ said is. is) (stays_sum (position_of g old at) old new does.1.sum does.1.taken _ refl) (sum_one at before after r does.1.sum does.1.told)
+          says (SumAt at) old new before after r (λ said is. is) (stays_sum (position_of g old at) old new does.1.sum does.1.taken _ refl) (sum_one at old new before after r does.1.sum does.1.taken does.1.told does.1.order)
       did OwnState old new was now before after r does =
-          says OwnState (IsOfKind OwnState) old new before after r (λ said is. is) (same_stays old new does.1.0)
-          (one_own (IsStateOf old) (IsOfKind OwnState) before after r (λ f. tt) does.1.1
-          (λ one is told fault. one_said (IsOfKind OwnState) (State (gtid_of old.engine) old.engine.checkpoint.base.position (window_in old).entries) before after r refl refl refl tt (subst (λ s. Tells (line_of s) before after r) is told) fault))
+          says OwnState old new before after r (λ said is. is) (same_stays old new does.1.0)
+          (one_own (IsStateOf g old) (IsAnswer OwnState old) before after r (refused_one OwnState old (λ f. tt)) does.1.1
+          (λ one is told fault. one_said (IsAnswer OwnState old) (State (gtid_of old.engine) old.engine.checkpoint.base.position (window_in old).entries) before after r refl refl refl (tt, state_told g parts old is.1) (subst (λ s. Tells (line_of s) before after r) is.0 told) fault))
       did OwnLimits old new was now before after r does =
-          says OwnLimits (IsOfKind OwnLimits) old new before after r (λ said is. is) (same_stays old new does.1.0)
-          (one_own (IsLimitsOf old) (IsOfKind OwnLimits) before after r (λ f. tt) does.1.1
-          (λ one is told fault. one_said (IsOfKind OwnLimits) (Limits (window_in old)) before after r refl refl refl tt (subst (λ s. Tells (line_of s) before after r) is told) fault))
+          says OwnLimits old new before after r (λ said is. is) (same_stays old new does.1.0)
+          (one_own (IsLimitsOf g old) (IsAnswer OwnLimits old) before after r (refused_one OwnLimits old (λ f. tt)) does.1.1
+          (λ one is told fault. one_said (IsAnswer OwnLimits old) (Limits (window_in old)) before after r refl refl refl (tt, limits_told g parts old is.1) (subst (λ s. Tells (line_of s) before after r) is.0 told) fault))
       did OwnCounters old new was now before after r does =
-          says OwnCounters (IsOfKind OwnCounters) old new before after r (λ said is. is) (same_stays old new does.1.0)
-          (one_own (AreCountersOf g old was) (IsOfKind OwnCounters) before after r (λ f. tt) does.1.1
-          (λ one is told fault. one_said (IsOfKind OwnCounters) (Counters is.0 was) before after r refl refl refl tt (subst (λ s. Tells (line_of s) before after r) is.2 told) fault))
+          says OwnCounters old new before after r (λ said is. is) (same_stays old new does.1.0)
+          (one_own (AreCountersOf g old was) (IsAnswer OwnCounters old) before after r (refused_one OwnCounters old (λ f. tt)) does.1.1
+          (λ one is told fault. one_said (IsAnswer OwnCounters old) (Counters is.0 was) before after r refl refl refl (tt, λ n L rest holds of. is.1.durable) (subst (λ s. Tells (line_of s) before after r) is.2 told) fault))
       did (Donate have out) old new was now before after r does = transfers have out old does.mid new was now before does.between after does.committed r does.tells does.transfer
       did (Wrong e) old new was now before after r does =
-          says (Wrong e) (IsOfKind (Wrong e)) old new before after r (λ said is. is) (same_stays old new does.1.0)
-          (one_own (λ said. ⊥) (IsOfKind (Wrong e)) before after r (λ f. tt) does.1.1 (λ one never told fault. absurd never))
+          says (Wrong e) old new before after r (λ said is. is) (same_stays old new does.1.0)
+          (one_own (λ said. ⊥) (IsAnswer (Wrong e) old) before after r (refused_one (Wrong e) old (λ f. tt)) does.1.1 (λ one never told fault. absurd never))

@@ -16,9 +16,11 @@ use Rattle.rep_follow.specs.Taking.{items_in}
 use Rattle.rep_service.specs.Opening.{OpensOrder, at_line}
 use Rattle.rep_service.specs.Serving.{is_of_line}
 use Rattle.rep_service.specs.Saying.{Said, Writes, receipts_in, passed_in, receipts_said}
-use Rattle.rep_service.specs.Living.{Lives, FollowsLines, IsFrom, ArePassed, PassesLines, IsOfLog, passed_before, FollowsOrder, ClosesWell, FollowsText}
-use Rattle.rep_service.proofs.Saying.{receipts_both, passed_both, writes_both, writes_whole}
-use Rattle.rep_service.proofs.Lives.{on_all, lives_both}
+use Rattle.rep_service.specs.Telling.{TellsTheOrder}
+use Rattle.rep_service.specs.Living.{Lives, FollowsLines, IsFrom, ArePassed, PassesLines, IsOfLog, passed_before, FollowsOrder, ClosesWell, FollowsText, NotWrongCluster}
+use Rattle.rep_service.proofs.Saying.{receipts_both, passed_both, writes_both, writes_whole, on_all}
+use Rattle.rep_service.proofs.Ordered.{tells_both}
+use Rattle.rep_service.proofs.Lives.{lives_both}
 use Rattle.rep_service.proofs.Items.{items_both}
 use Rattle.rep_service.proofs.Answered.{on_both, answered_as, answered_both}
 use Rattle.rep_service.proofs.Following.{handed_both}
@@ -61,11 +63,12 @@ module _ {D : Type 0} (g : Ghosts D) where
     are_passed = passes.passed.are;
     all_passed = tt;
     from = passes.passed.from;
+    differs = passes.passed.differs;
     answers = passes.answers;
   }
 
-  pub order_stopped : (position : ℕ) (old new : Replica D) (text behind : Option (List ℕ)) (at : ℕ) (before after : Option (List ℕ)) (e : Refusal) → Passes position old new text behind at before after (Ok tt) → Order position old new text behind before after [] (Err e)
-  order_stopped position old new text behind at before after e passes = order_not position old new text behind at before after e (passes_as g (base_of old) (IsOfLog g old) position old new text behind at before after (Err e) passes)
+  pub order_stopped : (position : ℕ) (old new : Replica D) (text behind : Option (List ℕ)) (at : ℕ) (before after : Option (List ℕ)) (e : Refusal) → NotWrongCluster (Err e) → Passes position old new text behind at before after (Ok tt) → Order position old new text behind before after [] (Err e)
+  order_stopped position old new text behind at before after e own passes = order_not position old new text behind at before after e (passes_as g (base_of old) (IsOfLog g old) position old new text behind at before after (Err e) own passes)
 
   -- the text ended before
   pub order_short : (position : ℕ) (old new : Replica D) (text behind : Option (List ℕ)) (at : ℕ) (before after : Option (List ℕ)) → Passes position old new text behind at before after (Ok tt) → at ≤ (facts_of g old).durable → Order position old new text behind before after [] (Ok tt)
@@ -85,14 +88,15 @@ module _ {D : Type 0} (g : Ghosts D) where
         are_passed = passes.passed.are;
         all_passed = subst (λ is. ArePassed (position + 1) is (passed_in passes.said)) (sym (take_all (passed_before g position old) items few)) passes.passed.all;
         from = passes.passed.from;
+        differs = passes.passed.differs;
         answers = passes.answers;
       }
 
   module _ (parts : PartsAreJoined g) where
     -- another part ended it, behind all lines
-    pub order_ended : (position : ℕ) (old mid new : Replica D) (text behind before written after : Option (List ℕ)) (closing : List Said) (r : Result (Unit {0}) Refusal) → Order position old mid text behind before written [] (Ok tt) → Lives g mid new [] closing written after r
+    pub order_ended : (position : ℕ) (old mid new : Replica D) (text behind before written after : Option (List ℕ)) (closing : List Said) (r : Result (Unit {0}) Refusal) → NotWrongCluster r → Order position old mid text behind before written [] (Ok tt) → Lives g mid new [] closing written after r
         → Order position old new text behind before after closing r
-    order_ended position old mid new text behind before written after closing r f lives =
+    order_ended position old mid new text behind before written after closing r own f lives =
         let both = lives_both g parts old mid new f.items [] (f.said ++ []) closing before written after r f.lives lives in
         record {
           lines = f.lines;
@@ -107,6 +111,7 @@ module _ {D : Type 0} (g : Ghosts D) where
           are_passed = f.are_passed;
           all_passed = on_all r f.all_passed;
           from = f.from;
+          differs = λ is. absurd (own is);
           answers = answered_as f.lines f.said r f.answers;
         }
 
@@ -135,13 +140,14 @@ module _ {D : Type 0} (g : Ghosts D) where
           are_passed = whole;
           all_passed = on_all r whole;
           from = all_append (IsFrom (base_of old) (IsOfLog g old)) passes.said follows.takes.said passes.passed.from (from_none (base_of old) (IsOfLog g old) follows.takes.said follows.takes.none);
+          differs = λ is. absurd (follows.takes.own is);
           answers = answered_both passes.lines follows.lines passes.said follows.takes.said r passes.answers follows.takes.answers;
         }
 
     -- what came before a line that ended it was made durable then
-    order_closed : (position : ℕ) (old mid new : Replica D) (text behind before written after : Option (List ℕ)) (receipts : List Reply) (e f : Refusal) → is_of_line e ≡ true → Order position old mid text behind before written [] (Err e) → Lives g mid new [] (receipts_said receipts) written after (Err f)
+    order_closed : (position : ℕ) (old mid new : Replica D) (text behind before written after : Option (List ℕ)) (receipts : List Reply) (e f : Refusal) → NotWrongCluster (Err f) → is_of_line e ≡ true → Order position old mid text behind before written [] (Err e) → Lives g mid new [] (receipts_said receipts) written after (Err f)
         → Order position old new text behind before after (receipts_said receipts) (Err f)
-    order_closed position old mid new text behind before written after receipts e f of order lives =
+    order_closed position old mid new text behind before written after receipts e f ours of order lives =
         let own : e ≢ StreamFault = λ is. absurd (let never : true ≡ false = sym of ∙ ap is_of_line is in cc) in
         let first = order.lives in
         let whole = writes_whole (order.said ++ []) before written e own first.written in
@@ -157,6 +163,8 @@ module _ {D : Type 0} (g : Ghosts D) where
                 (subst (λ (is : List Item). Follows g old new is (receipts_in (order.said ++ []) ++ receipts_in (receipts_said receipts))) (append-nil order.items)
                 (parts.both old mid new order.items [] (receipts_in (order.said ++ [])) (receipts_in (receipts_said receipts)) first.follows lives.follows)));
             written = subst (λ s. Writes (s ++ receipts_said receipts) before after (Err f)) unit (writes_both (order.said ++ []) (receipts_said receipts) before written after (Err f) whole lives.written);
+            told = subst (λ s. TellsTheOrder g old order.items (s ++ receipts_said receipts)) unit
+                (subst (λ (is : List Item). TellsTheOrder g old is ((order.said ++ []) ++ receipts_said receipts)) (append-nil order.items) (tells_both g parts old mid order.items [] (order.said ++ []) (receipts_said receipts) first.follows first.told lives.told));
             rests = λ rests. tt;
           };
           most = order.most;
@@ -166,14 +174,15 @@ module _ {D : Type 0} (g : Ghosts D) where
           are_passed = order.are_passed;
           all_passed = tt;
           from = order.from;
+          differs = λ is. absurd (ours is);
           answers = record { most = order.answers.most; are = order.answers.are; all = tt };
         }
 
     pub order_behind : (position : ℕ) (old mid new : Replica D) (text behind before written after : Option (List ℕ)) (e f : Refusal) (b : Bool) → is_of_line e ≡ b → Order position old mid text behind before written [] (Err e)
-        → (is_of_line e ≡ true → (receipts : List Reply) × Lives g mid new [] (receipts_said receipts) written after (Err f)) → (is_of_line e ≡ false → (f ≡ e) × (new ≡ mid) × (after ≡ written))
+        → (is_of_line e ≡ true → NotWrongCluster (Err f)) → (is_of_line e ≡ true → (receipts : List Reply) × Lives g mid new [] (receipts_said receipts) written after (Err f)) → (is_of_line e ≡ false → (f ≡ e) × (new ≡ mid) × (after ≡ written))
         → (closing : List Said) × Order position old new text behind before after closing (Err f)
-    order_behind position old mid new text behind before written after e f true of order line other = let closed = line of in (receipts_said closed.0, order_closed position old mid new text behind before written after closed.0 e f of order closed.1)
-    order_behind position old mid new text behind before written after e f false of order line other =
+    order_behind position old mid new text behind before written after e f true of order own line other = let closed = line of in (receipts_said closed.0, order_closed position old mid new text behind before written after closed.0 e f (own of) of order closed.1)
+    order_behind position old mid new text behind before written after e f false of order own line other =
         let same = other of in
         ([], subst (λ (r : Replica D). Order position old r text behind before after [] (Err f)) (sym same.1) (subst (λ (x : Refusal). Order position old mid text behind before after [] (Err x)) (sym same.0) (subst (λ w. Order position old mid text behind before w [] (Err e)) (sym same.2) order)))
 

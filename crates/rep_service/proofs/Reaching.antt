@@ -14,6 +14,7 @@ use Rattle.rep_follow.specs.Taking.{text_of}
 use Rattle.rep_service.specs.Commanding.{EndsNode, awaited, ComesOf}
 use Rattle.rep_service.specs.Passing.{IsAnswered, IsItem, AreLines, Passes}
 use Rattle.rep_service.specs.Living.{HandsLines, Reaches}
+use Rattle.rep_service.proofs.Saying.{own_ok}
 use Rattle.rep_service.proofs.Following.{text_both}
 use Rattle.rep_service.proofs.Lives.{Did}
 use Rattle.rep_service.proofs.Handing.{hands_none, hands_kept, hands_more}
@@ -42,17 +43,17 @@ module _ {D : Type 0} (g : Ghosts D) (parts : PartsAreJoined g) (next : ℕ) whe
   module _ (old between : Replica D) (text mid behind before written : Option (List ℕ)) (so : Reaching g next old between text mid before written) where
     module _ (new : Replica D) (after : Option (List ℕ)) (number : ℕ) (line : List ℕ) (request : Requested) (says : request ≡ requested number line) (handed : Consumes mid behind (line ++ 10 ∷ [])) (none : (facts_of g between).ahead ≡ []) (did : Did g request between new written after (Ok tt)) where
       pub reaching_more : IsAnswered next line → Reaching g next old new text behind before after
-      reaching_more is = record { hands = hands_more g parts old between new text mid behind before written after number line request (Ok tt) says so.hands handed none did; are = answered_push next so.hands.lines line so.are is }
+      reaching_more is = record { hands = hands_more g parts old between new text mid behind before written after number line request (Ok tt) own_ok says so.hands handed none did; are = answered_push next so.hands.lines line so.are is }
 
       pub reaches_item : (left : List ℕ) (rest : Option (List ℕ)) (i : Item) → IsItem next line i → Reaches g next old new left rest text behind before after (Some i)
       reaches_item left rest i is = record {
-        hands = hands_more g parts old between new text mid behind before written after number line request (Ok tt) says so.hands handed none did;
+        hands = hands_more g parts old between new text mid behind before written after number line request (Ok tt) own_ok says so.hands handed none did;
         are = item_push next so.hands.lines line i so.are is;
         ended = λ none. absurd cc;
       }
 
     pub reaches_end : (left : List ℕ) (rest : Option (List ℕ)) → HasNoFeed left → IsAtEnd rest → Keeps mid behind → Reaches g next old between left rest text behind before written None
-    reaches_end left rest none ended kept = record { hands = hands_kept g old between text mid behind before written (Ok tt) so.hands kept; are = so.are; ended = λ is. (none, ended) }
+    reaches_end left rest none ended kept = record { hands = hands_kept g old between text mid behind before written (Ok tt) own_ok so.hands kept; are = so.are; ended = λ is. (none, ended) }
 
 -- ---- what came of a line
 

@@ -12,6 +12,7 @@ use Rattle.rep_follow.specs.Receipts.{receipt_line, receipt_lines}
 use Rattle.rep_follow.specs.Committing.{Written}
 use Rattle.rep_service.specs.Saying.{Said, Refused, line_of, lines_of, Writes, receipt_in, receipts_in, passed_at, passed_in, answer_at, answers_in, receipts_said}
 use Rattle.rep_service.specs.Commanding.{Refuses, TellsOwn}
+use Rattle.rep_service.specs.Living.{NotWrongCluster}
 
 -- ---- kinds of lines
 
@@ -127,6 +128,17 @@ writes_receipts rs a b (Err e) w = by (wrote rs a b e w)
     by (inl fault) = subst (λ f. Writes (receipts_said rs) a b (Err f)) (sym fault) (wrote_cut rs a b (subst (λ f. Written rs a b (Err f)) fault w))
     by (inr whole) = writes_as (receipts_said rs) a b (Err e) (subst (Appends a b) (sym (receipt_texts rs)) whole)
 
+-- ---- it is not refused as another cluster's
+
+pub own_ok : NotWrongCluster (Ok tt)
+own_ok is = cc
+
+pub own_by : (e : Refusal) → e ≢ WrongCluster → NotWrongCluster (Err e)
+own_by e other is = other (let same : e ≡ WrongCluster = cc in same)
+
+pub own_fault : (e : Refusal) → e ≡ StreamFault → e ≢ WrongCluster
+own_fault e fault is = absurd (let never : StreamFault ≡ WrongCluster = sym fault ∙ is in cc)
+
 -- ---- one line of a kind
 
 -- At most one line was said, of this kind: one where it ended well.
@@ -135,10 +147,11 @@ pub record One (IsOne : Said → Type 0) (a b : Option (List ℕ)) (r : Result (
   pub writes : Writes said a b r
   pub still : receipts_in said ≡ []
   pub none : passed_in said ≡ []
+  pub only : (said ≡ []) ⊎ ((one : Said) × (said ≡ one ∷ []) × IsOne one)
   pub cut : (answers_in said ≡ []) ⊎ ((one : Said) × (answers_in said ≡ one ∷ []) × IsOne one)
   pub all : OnOk r ((one : Said) × (answers_in said ≡ one ∷ []) × IsOne one)
 
-on_all : {T : Type 0} {P : Type 0} (r : Result T Refusal) → P → OnOk r P
+pub on_all : {T : Type 0} {P : Type 0} (r : Result T Refusal) → P → OnOk r P
 on_all (Ok x) p = p
 on_all (Err e) p = tt
 
@@ -150,6 +163,7 @@ one_said IsOne one a b r no_receipt not_passed answer is told fault =
       writes = writes_told one a b r told fault;
       still = ap (λ l. l ++ []) no_receipt;
       none = ap (λ l. l ++ []) not_passed;
+      only = inr (one, refl, is);
       cut = inr said;
       all = on_all r said;
     }
@@ -163,6 +177,7 @@ one_none IsOne e a b r ends = record {
   writes = writes_kept a b r e ends.0 ends.1;
   still = refl;
   none = refl;
+  only = inl refl;
   cut = inl refl;
   all = subst (λ x. OnOk x ((one : Said) × (answers_in [] ≡ one ∷ []) × IsOne one)) (sym ends.0) tt;
 }

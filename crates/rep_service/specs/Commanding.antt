@@ -1,20 +1,24 @@
 -- What a node does at a line that asks for something, and what it writes of it.
-use Rattle.std.specs.Prelude.{◌≡◌, ◌⊎◌, ℕ, ◌+◌, ◌==◌, if◌then◌else◌, List, Option, None, Some, Result, Ok, Err, IfErr, MatchResult}
+use Rattle.std.specs.Prelude.{◌≡◌, ◌⊎◌, ℕ, ◌+◌, ◌==◌, if◌then◌else◌, List, take, Option, None, Some, Result, Ok, Err, IfOk, IfErr, MatchResult}
 use Rattle.std.specs.Io.KnownBytes.{Keeps}
 use Rattle.rep_types.specs.declared.key.Key.{Key}
 use Rattle.rep_types.specs.declared.item.Item.{Item}
 use Rattle.rep_types.specs.declared.refusal.Refusal.{Refusal}
 use Rattle.rep_types.specs.declared.refusal.Refusal.TheVariants.{StreamFault, Stopped, DiskFault, OutOfOrder, Malformed}
 use Rattle.rep_types.specs.Windows.{Window}
+use Rattle.rep_types.specs.Order.{Order, window, state}
 use Rattle.rep_disk.specs.declared.disk.Disk.{Ghosts}
 use Rattle.rep_cert.specs.Holdings.{window_of}
 use Rattle.rep_engine.specs.Engines.{gtid_of, durable_of}
+use Rattle.rep_steps.specs.Nodes.{Node}
+use Rattle.rep_steps.specs.Orders.{IsOf}
 use Rattle.rep_requests.specs.Requests.{Requested, Nothing, Published, Stated, Read, Sum, State as OwnState, Limits as OwnLimits, Counters as OwnCounters, Donate, Refused as Wrong, Broken}
 use Rattle.rep_replica.specs.Replicas.{Replica, facts_of}
+use Rattle.rep_replica.specs.Holding.{Holds}
 use Rattle.rep_replica.specs.Settling.{EndsEarly}
 use Rattle.rep_replica.specs.Asking.{IsAsked}
 use Rattle.rep_sum.specs.declared.sum.Sum.{Sum as SumOf}
-use Rattle.rep_sum.specs.Sums.{RowRead, IsSumAt}
+use Rattle.rep_sum.specs.Sums.{RowRead, IsSumAt, sum_of}
 use Rattle.rep_script.specs.Answering.{Tells}
 use Rattle.rep_script.specs.CatchingUp.{donated_line}
 use Rattle.rep_script.specs.Refusing.{refused_line}
@@ -23,7 +27,7 @@ use Rattle.rep_follow.specs.declared.counts.Counts.{Counts}
 use Rattle.rep_follow.specs.Committing.{TellsAll}
 use Rattle.rep_service.specs.Lines.{rows_line}
 use Rattle.rep_service.specs.declared.counters.Level.{Level}
-use Rattle.rep_service.specs.Rows.{ReadsRows}
+use Rattle.rep_service.specs.Rows.{ReadsRows, rows_of}
 use Rattle.rep_service.specs.Saying.{Said, State, Limits, Counters, Refused, line_of}
 
 -- ---- how a node ends
@@ -46,11 +50,12 @@ abbrev pub TellsRead : ℕ → Result (List RowRead) Refusal → Option (List �
 TellsRead at (Ok rows) before after result = Tells (rows_line at rows) before after result × IfErr result (λ e. e ≡ StreamFault)
 TellsRead at (Err e) before after result = Refuses e before after result
 
--- The rows of these keys were read at what is durable, and told.
+-- The rows of these keys were read at what is durable, and told. At a node of an order they are the order's.
 pub record TellsRows {D : Type 0} (g : Ghosts D) (keys : List Key) (old new : Replica D) (before after : Option (List ℕ)) (result : Result (Unit {0}) Refusal) : Type 0 where
   pub rows : Result (List RowRead) Refusal
   pub reads : ReadsRows g (facts_of g old).durable keys old rows new
   pub told : TellsRead (facts_of g old).durable rows before after result
+  pub order : (n : Node) (L : Order) → Holds g n old → IsOf L n → IfOk rows (λ xs. xs ≡ rows_of n.facts.setting L keys (facts_of g old).durable)
 
 -- ---- a sum
 
@@ -59,11 +64,12 @@ abbrev pub TellsSummed : Result SumOf Refusal → Option (List ℕ) → Option (
 TellsSummed (Ok sum) before after result = Tells (sum_line sum) before after result × IfErr result (λ e. e ≡ StreamFault)
 TellsSummed (Err e) before after result = Refuses e before after result
 
--- The sum at this position, or at what is durable, was taken, and told.
+-- The sum at this position, or at what is durable, was taken, and told. At a node of an order it is that of the order's state.
 pub record TellsSumOf {D : Type 0} (g : Ghosts D) (asked : Option ℕ) (old new : Replica D) (before after : Option (List ℕ)) (result : Result (Unit {0}) Refusal) : Type 0 where
   pub sum : Result SumOf Refusal
   pub taken : IsSumAt g (position_of g old asked) old sum new
   pub told : TellsSummed sum before after result
+  pub order : (n : Node) (L : Order) → Holds g n old → IsOf L n → IfOk sum (λ s. s ≡ sum_of n.facts.uuid n.facts.setting.rows (state n.facts.setting (take (position_of g old asked) L)))
 
 -- ---- a transfer
 
@@ -99,11 +105,15 @@ pub record TellsOwn (IsOwn : Said → Type 0) (before after : Option (List ℕ))
 abbrev pub window_in : {D : Type 0} → Replica D → Window
 window_in r = window_of r.certifier.current (durable_of r.engine.log)
 
-abbrev pub IsStateOf : {D : Type 0} → Replica D → Said → Type 0
-IsStateOf r said = said ≡ State (gtid_of r.engine) r.engine.checkpoint.base.position (window_in r).entries
+-- At a node of an order it is the order's.
+abbrev pub HasWindow : {D : Type 0} → Ghosts D → Replica D → Type 0
+HasWindow g r = (n : Node) (L : Order) → Holds g n r → IsOf L n → window_in r ≡ window n.facts.setting (take (facts_of g r).durable L)
 
-abbrev pub IsLimitsOf : {D : Type 0} → Replica D → Said → Type 0
-IsLimitsOf r said = said ≡ Limits (window_in r)
+abbrev pub IsStateOf : {D : Type 0} → Ghosts D → Replica D → Said → Type 0
+IsStateOf g r said = (said ≡ State (gtid_of r.engine) r.engine.checkpoint.base.position (window_in r).entries) × HasWindow g r
+
+abbrev pub IsLimitsOf : {D : Type 0} → Ghosts D → Replica D → Said → Type 0
+IsLimitsOf g r said = (said ≡ Limits (window_in r)) × HasWindow g r
 
 -- where the replica stands; how often its device was synced, that tells
 pub record IsLevelOf {D : Type 0} (g : Ghosts D) (r : Replica D) (level : Level) : Type 0 where
@@ -152,7 +162,7 @@ DoesAt g Nothing old new was now before after result = (now ≡ was) × ((new �
 DoesAt g (Published n i) old new was now before after result = (now ≡ was) × ((new ≡ old) × (after ≡ before))
 DoesAt g (Stated i) old new was now before after result = (now ≡ was) × ((new ≡ old) × (after ≡ before))
 DoesAt g Broken old new was now before after result = (now ≡ was) × ((new ≡ old) × (after ≡ before))
-DoesAt g OwnState old new was now before after result = (now ≡ was) × ((new ≡ old) × TellsOwn (IsStateOf old) before after result)
-DoesAt g OwnLimits old new was now before after result = (now ≡ was) × ((new ≡ old) × TellsOwn (IsLimitsOf old) before after result)
+DoesAt g OwnState old new was now before after result = (now ≡ was) × ((new ≡ old) × TellsOwn (IsStateOf g old) before after result)
+DoesAt g OwnLimits old new was now before after result = (now ≡ was) × ((new ≡ old) × TellsOwn (IsLimitsOf g old) before after result)
 DoesAt g OwnCounters old new was now before after result = (now ≡ was) × ((new ≡ old) × TellsOwn (AreCountersOf g old was) before after result)
 DoesAt g (Wrong e) old new was now before after result = (now ≡ was) × ((new ≡ old) × TellsOwn (λ said. ⊥) before after result)

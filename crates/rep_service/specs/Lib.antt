@@ -5,6 +5,7 @@ pub mod Rows
 pub mod Saying
 pub mod Opening
 pub mod Passing
+pub mod Telling
 pub mod Commanding
 pub mod Living
 pub mod Serving

@@ -1,11 +1,12 @@
 -- What the life of a node was that follows an order: the lines that it was handed, the items that were delivered to it, and what it wrote.
-use Rattle.std.specs.Prelude.{◌≡◌, ℕ, ◌+◌, ◌-◌, ◌≤◌, List, [], ◌∷◌, ◌++◌, length, take, drop, Contains, Option, None, Result, Ok, Err, OnOk}
+use Rattle.std.specs.Prelude.{◌≡◌, ◌≢◌, ℕ, ◌+◌, ◌-◌, ◌≤◌, List, [], ◌∷◌, ◌++◌, length, take, drop, Contains, Option, None, Result, Ok, Err, OnOk}
 use Rattle.std.specs.List.{AllByRecursion}
 use Rattle.std.specs.Io.KnownBytes.{Consumes, IsAtEnd}
 use Rattle.rep_types.specs.declared.item.Item.{Item}
 use Rattle.rep_types.specs.declared.judged.Judged.{Judged}
 use Rattle.rep_types.specs.declared.reply.Reply.{Reply}
 use Rattle.rep_types.specs.declared.refusal.Refusal.{Refusal}
+use Rattle.rep_types.specs.declared.refusal.Refusal.TheVariants.{WrongCluster}
 use Rattle.rep_types.specs.Order.{Order}
 use Rattle.rep_disk.specs.declared.disk.Disk.{Ghosts}
 use Rattle.rep_lines.specs.Lines.{HasNoFeed}
@@ -24,13 +25,15 @@ use Rattle.rep_follow.specs.Taking.{text_of, items_in}
 use Rattle.rep_service.specs.Commanding.{window_in}
 use Rattle.rep_service.specs.Opening.{OpensOrder, at_line}
 use Rattle.rep_service.specs.Passing.{AreLines, items_of}
+use Rattle.rep_service.specs.Telling.{TellsTheOrder}
 use Rattle.rep_service.specs.Saying.{Said, Logged, Old, Rows, Summed, State, Limits, Counters, Donated, Refused, Writes, receipts_in, passed_in, answers_in, receipts_said}
 
--- A part of a life: these items were delivered, this was said, with the receipts that were given, and it was written as far as the writer took it. Where it
--- ended well, a log that was at rest is at rest again.
+-- A part of a life: these items were delivered, this was said, with the receipts that were given, and it was written as far as the writer took it. At
+-- a node of an order what was said is what the order says. Where it ended well, a log that was at rest is at rest again.
 pub record Lives {D : Type 0} (g : Ghosts D) (old new : Replica D) (items : List Item) (said : List Said) (before after : Option (List ℕ)) (result : Result (Unit {0}) Refusal) : Type 0 where
   pub follows : Follows g old new items (receipts_in said)
   pub written : Writes said before after result
+  pub told : TellsTheOrder g old items said
   pub rests : (facts_of g old).phase ≡ Resting → OnOk result ((facts_of g new).phase ≡ Resting)
 
 -- ---- what lines are answered
@@ -38,7 +41,7 @@ pub record Lives {D : Type 0} (g : Ghosts D) (old new : Replica D) (items : List
 -- The line says what was asked for, or why that is refused.
 abbrev pub IsOfKind : Requested → Said → Type 0
 IsOfKind (Read keys) (Rows at rows) = keys_read rows ≡ keys
-IsOfKind (Sum asked) (Summed sum) = Unit {0}
+IsOfKind (Sum asked) (Summed of sum) = of ≡ asked
 IsOfKind OwnState (State gtid base window) = Unit {0}
 IsOfKind OwnLimits (Limits window) = Unit {0}
 IsOfKind OwnCounters (Counters level counts) = Unit {0}
@@ -69,6 +72,10 @@ pub record AreAnswered (lines : List (List ℕ)) (said : List Said) (result : Re
   pub are : AnswersLines (take most lines) (answers_in said)
   pub all : OnOk result (AnswersLines lines (answers_in said))
 
+-- it is not refused as another cluster's
+abbrev pub NotWrongCluster : Result (Unit {0}) Refusal → Type 0
+NotWrongCluster result = result ≢ Err WrongCluster
+
 -- ---- lines whose items are delivered
 
 -- What was delivered of these lines are their items from this seqno on, in order and each once: all of them where it went on, and else a front of
@@ -83,6 +90,7 @@ pub record TakesItems {D : Type 0} (g : Ghosts D) (first : ℕ) (lines : List (L
   pub next_is : OnOk result (next ≡ first + length items)
   pub none : passed_in said ≡ []
   pub answers : AreAnswered lines said result
+  pub own : NotWrongCluster result
 
 -- So it is with the lines that were handed out in front of the text.
 pub record FollowsLines {D : Type 0} (g : Ghosts D) (first : ℕ) (old new : Replica D) (text behind : Option (List ℕ)) (next : ℕ) (before after : Option (List ℕ)) (result : Result (Unit {0}) Refusal) : Type 0 where
@@ -101,6 +109,7 @@ pub record HandsLines {D : Type 0} (g : Ghosts D) (old new : Replica D) (text be
   pub still : receipts_in said ≡ []
   pub none : passed_in said ≡ []
   pub answers : AreAnswered lines said result
+  pub own : NotWrongCluster result
 
 -- The next item was reached: the lines before it were answered; or there is none, and the text has ended behind its last line feed.
 pub record Reaches {D : Type 0} (g : Ghosts D) (next : ℕ) (old new : Replica D) (left : List ℕ) (rest text behind before after : Option (List ℕ)) (found : Option Item) : Type 0 where
@@ -126,12 +135,23 @@ IsFrom base Has (Old n) = n ≤ base
 IsFrom base Has (Logged j) = Has j
 IsFrom base Has said = Unit {0}
 
--- Items of these lines were passed over, from behind this position on: all of them where it went on, and else a front of them.
+-- The item behind those that were passed over, which is the last one of these lines, is another one than that of the record of its seqno.
+pub record Differs (Has : Judged → Type 0) (first : ℕ) (lines : List (List ℕ)) (said : List Said) : Type 0 where
+  pub judged : Judged
+  pub has : Has judged
+  pub item : Item
+  pub next : drop (length (passed_in said)) (items_in (first + 1) lines) ≡ item ∷ []
+  pub seqno_is : judged.seqno ≡ (first + 1) + length (passed_in said)
+  pub another : item ≢ judged.item
+
+-- Items of these lines were passed over, from behind this position on: all of them where it went on, and else a front of them. Where it is refused as another
+-- cluster's, the next one differs.
 pub record Passed (base : ℕ) (Has : Judged → Type 0) (first : ℕ) (lines : List (List ℕ)) (said : List Said) (result : Result (Unit {0}) Refusal) : Type 0 where
   pub most : ℕ
   pub are : ArePassed (first + 1) (take most (items_in (first + 1) lines)) (passed_in said)
   pub all : OnOk result (ArePassed (first + 1) (items_in (first + 1) lines) (passed_in said))
   pub from : AllByRecursion (IsFrom base Has) said
+  pub differs : result ≡ Err WrongCluster → Differs Has first lines said
 
 -- Lines were handed out whose items were passed over: where it went on, the position rose by one for each of them. The other lines were answered; nothing was
 -- delivered, and no receipt given of an item that became durable.
@@ -162,7 +182,8 @@ passed_before g position r = (facts_of g r).durable - position
 
 -- The lines of an order behind this position were handed out. What was delivered are their items behind those that were durable already, in order
 -- and each once: all of them where it ended well, and else a front of them. Of those that were durable it was said in order, of each once, that the log
--- has it no more, or its receipt as the log has it; and the other lines were answered, before what closes the text.
+-- has it no more, or its receipt as the log has it; and the other lines were answered, before what closes the text. It is refused as another cluster's only
+-- where the item behind these is another one than the log's.
 pub record FollowsOrder {D : Type 0} (g : Ghosts D) (position : ℕ) (old new : Replica D) (text behind : Option (List ℕ)) (before after : Option (List ℕ)) (closing : List Said) (result : Result (Unit {0}) Refusal) : Type 0 where
   pub lines : List (List ℕ)
   pub items : List Item
@@ -176,6 +197,7 @@ pub record FollowsOrder {D : Type 0} (g : Ghosts D) (position : ℕ) (old new : 
   pub are_passed : ArePassed (position + 1) (take passed (items_in (position + 1) lines)) (passed_in said)
   pub all_passed : OnOk result (ArePassed (position + 1) (take (passed_before g position old) (items_in (position + 1) lines)) (passed_in said))
   pub from : AllByRecursion (IsFrom old.engine.checkpoint.base.position (IsOfLog g old)) said
+  pub differs : result ≡ Err WrongCluster → Differs (IsOfLog g old) position lines said
   pub answers : AreAnswered lines said result
 
 -- What closes a text that ended well: what became durable last, and the state.

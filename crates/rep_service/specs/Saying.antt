@@ -22,13 +22,13 @@ use Rattle.rep_service.specs.declared.counters.Level.{Level}
 use Rattle.rep_service.specs.Lines.{rows_line, counters_line, old_line}
 
 -- What a line says: the receipt of an item that became durable; that of an item as the log has it; that an item is at or below the base; rows at one
--- position; a sum; the state; the limits of the window; what is counted; that a transfer was written; or why something is refused.
+-- position; a sum, at a position where one was asked for; the state; the limits of the window; what is counted; that a transfer was written; or why something is refused.
 pub data Said : Type 0 where
   Receipt : (reply : Reply) → Said
   Logged : (judged : Judged) → Said
   Old : (seqno : ℕ) → Said
   Rows : (at : ℕ) (rows : List RowRead) → Said
-  Summed : (sum : SumOf) → Said
+  Summed : (asked : Option ℕ) (sum : SumOf) → Said
   State : (gtid : Gtid) (base : ℕ) (window : List Entry) → Said
   Limits : (window : Window) → Said
   Counters : (level : Level) (counts : Counts) → Said
@@ -40,7 +40,7 @@ line_of (Receipt r) = receipt_line r
 line_of (Logged j) = receipt_line (reply_of j)
 line_of (Old seqno) = old_line seqno
 line_of (Rows at rows) = rows_line at rows
-line_of (Summed sum) = sum_line sum
+line_of (Summed asked sum) = sum_line sum
 line_of (State gtid base window) = state_line gtid base window
 line_of (Limits window) = limits_line window
 line_of (Counters level counts) = counters_line level counts
@@ -59,31 +59,16 @@ Writes said before after (Err e) = (k : ℕ) × Appends before after (take k (li
 
 abbrev pub receipt_in : Said → List Reply
 receipt_in (Receipt r) = r ∷ []
-receipt_in (Logged j) = []
-receipt_in (Old seqno) = []
-receipt_in (Rows at rows) = []
-receipt_in (Summed sum) = []
-receipt_in (State gtid base window) = []
-receipt_in (Limits window) = []
-receipt_in (Counters level counts) = []
-receipt_in (Donated last) = []
-receipt_in (Refused e) = []
+receipt_in said = []
 
 -- the receipts of items that became durable
 abbrev pub receipts_in : List Said → List Reply
 receipts_in said = flat_map receipt_in said
 
 abbrev pub passed_at : Said → List Said
-passed_at (Receipt r) = []
 passed_at (Logged j) = Logged j ∷ []
 passed_at (Old seqno) = Old seqno ∷ []
-passed_at (Rows at rows) = []
-passed_at (Summed sum) = []
-passed_at (State gtid base window) = []
-passed_at (Limits window) = []
-passed_at (Counters level counts) = []
-passed_at (Donated last) = []
-passed_at (Refused e) = []
+passed_at said = []
 
 -- what is said of items that were durable already
 abbrev pub passed_in : List Said → List Said
@@ -93,13 +78,7 @@ abbrev pub answer_at : Said → List Said
 answer_at (Receipt r) = []
 answer_at (Logged j) = []
 answer_at (Old seqno) = []
-answer_at (Rows at rows) = Rows at rows ∷ []
-answer_at (Summed sum) = Summed sum ∷ []
-answer_at (State gtid base window) = State gtid base window ∷ []
-answer_at (Limits window) = Limits window ∷ []
-answer_at (Counters level counts) = Counters level counts ∷ []
-answer_at (Donated last) = Donated last ∷ []
-answer_at (Refused e) = Refused e ∷ []
+answer_at said = said ∷ []
 
 -- what is said of no item
 abbrev pub answers_in : List Said → List Said

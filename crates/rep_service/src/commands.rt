@@ -1,10 +1,11 @@
 //! Commands, each answered by one line at what is durable.
 
-ghost use Rattle.std.specs.Prelude.{◌≡◌, ◌↔◌, true, ◌≤◌, ◌==◌, if◌then◌else◌, length, None, Some, Ok, Err, [], OnOk, IfErr, MatchResult};
+ghost use Rattle.std.specs.Prelude.{◌≡◌, ◌≤◌, ◌==◌, if◌then◌else◌, length, None, Some, Ok, Err, [], OnOk, IfErr, MatchResult};
 ghost use Rattle.rep_types.specs.declared.refusal.Refusal.TheVariants.{OutOfOrder};
 ghost use Rattle.rep_streams.specs.Streams.{Notes};
 ghost use Rattle.rep_requests.specs.Requests.{said_of};
 ghost use Rattle.rep_replica.specs.Replicas.{facts_of};
+ghost use Rattle.rep_script.specs.Summing.{position_of};
 ghost use Rattle.rep_service.specs.Commanding.{EndsNode, Refuses, TellsRows, TellsSumOf, TellsDonation, TellsOwn, IsStateOf, IsLimitsOf, IsLevelOf, AreCountersOf, awaited, ComesOf, done_of, DoesAt};
 
 use crate::counters::{Level, write_level};
@@ -16,8 +17,10 @@ use rep_disk::Disk;
 use rep_follow::{Counts, commit};
 use rep_replica::Replica;
 use rep_requests::Request;
-use rep_script::{donated_text, sum_text, write_limits, write_refused, write_state};
+use rep_script::{donated_text, write_limits, write_refused, write_state, write_sum};
+use rep_steps::nodes_hold_the_order;
 use rep_streams::Sink;
+use rep_sum::sum_at;
 use rep_types::{Item, Key, Refusal};
 use std::alloc::Global;
 
@@ -64,10 +67,11 @@ fn answer_state<D: Disk, W: Sink>(
     replica: &Replica<D>,
     writer: &mut W,
 ) -> Result<(), Refusal>
-    ensures tells { TellsOwn (IsStateOf replica.now) (W.contents writer.old) (W.contents writer.new) result }
+    ensures tells { TellsOwn (IsStateOf D.Disk replica.now) (W.contents writer.old) (W.contents writer.new) result }
     ensures notes { Notes (W.failed writer.old) (W.failed writer.new) result }
     ensures refused { IfErr result (λ e. e ≡ Refusal.StreamFault) }
 {
+    nodes_hold_the_order();
     match replica.window(alloc) {
         Ok(window) => write_state(writer, replica, window.entries()),
         Err(refusal) => write_refused(writer, refusal),
@@ -82,21 +86,25 @@ fn answer_limits<D: Disk, W: Sink>(
     replica: &Replica<D>,
     writer: &mut W,
 ) -> Result<(), Refusal>
-    ensures tells { TellsOwn (IsLimitsOf replica.now) (W.contents writer.old) (W.contents writer.new) result }
+    ensures tells { TellsOwn (IsLimitsOf D.Disk replica.now) (W.contents writer.old) (W.contents writer.new) result }
     ensures notes { Notes (W.failed writer.old) (W.failed writer.new) result }
     ensures refused { IfErr result (λ e. e ≡ Refusal.StreamFault) }
 {
+    nodes_hold_the_order();
     match replica.window(alloc) {
         Ok(window) => write_limits(writer, &window),
         Err(refusal) => write_refused(writer, refusal),
     }
 }
 
-/// Whether it is the refusal of a stream.
-fn is_stream_fault(refusal: Refusal) -> bool
-    ensures { (result ≡ true) ↔ (refusal ≡ Refusal.StreamFault) }
+/// The position of a sum: this one, or what is durable.
+fn position_of<D: Disk>(replica: &Replica<D>, position: Option<u64>) -> u64
+    ensures { result ≡ position_of D.Disk replica.now position }
 {
-    matches!(refusal, Refusal::StreamFault)
+    match position {
+        Some(position) => position,
+        None => replica.durable(),
+    }
 }
 
 /// Writes the line of the sum of the rows at the position, or at what is durable; where it is refused, the line of that refusal.
@@ -112,9 +120,9 @@ fn answer_sum<D: Disk, W: Sink>(
     ensures notes { Notes (W.failed writer.old) (W.failed writer.new) result }
     ensures ends { IfErr result EndsNode }
 {
-    match sum_text(replica, position, writer) {
-        Ok(()) => Ok(()),
-        Err(refusal) if is_stream_fault(refusal) => Err(refusal),
+    let at = position_of(replica, position);
+    match sum_at(replica, at) {
+        Ok(sum) => write_sum(writer, &sum),
         Err(refusal) => refuse(writer, refusal),
     }
 }

@@ -49,7 +49,7 @@ pub(crate) fn answer_durable<W: Sink>(
     ensures same { item.now ≡ judged.now.item → TellsDurable judged.now (W.contents writer.old) (W.contents writer.new) result }
     ensures another { item.now ≢ judged.now.item → (result ≡ Err Refusal.WrongCluster) × (writer.new ≡ writer.old) }
     // One of the two it is.
-    ensures either { IfErr result (λ e. (W.contents writer.new ≡ W.contents writer.old) ⊎ ((item.now ≡ judged.now.item) × TellsDurable judged.now (W.contents writer.old) (W.contents writer.new) (Err e))) }
+    ensures either { IfErr result (λ e. ((e ≡ Refusal.WrongCluster) × (item.now ≢ judged.now.item) × (W.contents writer.new ≡ W.contents writer.old)) ⊎ ((item.now ≡ judged.now.item) × TellsDurable judged.now (W.contents writer.old) (W.contents writer.new) (Err e))) }
     ensures notes { Notes (W.failed writer.old) (W.failed writer.new) result }
 {
     if !is_item(item, &judged.item) {

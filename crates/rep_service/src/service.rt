@@ -13,7 +13,7 @@ ghost use Rattle.rep_follow.specs.Following.{NotesEither};
 ghost use Rattle.rep_follow.specs.Taking.{taken_by};
 ghost use Rattle.rep_service.specs.Commanding.{done_of};
 ghost use Rattle.rep_service.specs.Saying.{Said, receipts_said};
-ghost use Rattle.rep_service.specs.Living.{Lives, TakesItems, FollowsLines, FollowsOrder, ClosesWell, FollowsText, FollowersAreFed};
+ghost use Rattle.rep_service.specs.Living.{Lives, NotWrongCluster, TakesItems, FollowsLines, FollowsOrder, ClosesWell, FollowsText, FollowersAreFed};
 ghost use Rattle.rep_service.specs.Inputs.{counted};
 ghost use Rattle.rep_service.specs.Serving.{is_of_line, EndsText, EndsOnDisk};
 
@@ -30,6 +30,7 @@ use rep_follow::{
 use rep_replica::Replica;
 use rep_requests::read_request;
 use rep_script::write_state;
+use rep_steps::nodes_hold_the_order;
 use rep_streams::{Sink, Source};
 use rep_types::{Item, Refusal};
 use std::alloc::Global;
@@ -46,6 +47,7 @@ fn take_stated<D: Disk, W: Sink>(
 ) -> Result<(), Refusal>
     ensures lives { (receipts : List Reply) × Lives D.Disk replica.old replica.new (taken_by item result) (receipts_said receipts) (W.contents writer.old) (W.contents writer.new) result }
     ensures next { OnOk result (next.new ≡ next.old + 1) }
+    ensures own { NotWrongCluster result }
     ensures notes { Notes (W.failed writer.old) (W.failed writer.new) result }
 {
     parts_are_joined::<D>();
@@ -196,9 +198,11 @@ fn end_text<D: Disk, W: Sink>(
     // Nothing is delivered; where it ends well, the state closes the text.
     ensures lives { (facts_of D.Disk replica.old).phase ≡ Resting → (closing : List Said) × Lives D.Disk replica.old replica.new [] closing (W.contents writer.old) (W.contents writer.new) result × OnOk result (ClosesWell replica.new closing) }
     ensures line { IfErr result (λ e. is_of_line e ≡ true → replica.new ≡ replica.old) }
+    ensures own { NotWrongCluster result }
     ensures notes { Notes (W.failed writer.old) (W.failed writer.new) result }
 {
     parts_are_joined::<D>();
+    nodes_hold_the_order();
     if !input.feed.is_empty() {
         return Err(Refusal::Malformed {
             at: input.next_number(),
@@ -266,9 +270,11 @@ fn end_behind<D: Disk, W: Sink>(
 ) -> Refusal
     ensures told { is_of_line refusal ≡ true → is_of_line result ≡ true → (facts_of D.Disk replica.new).ahead ≡ [] }
     ensures lives { is_of_line refusal ≡ true → (receipts : List Reply) × Lives D.Disk replica.old replica.new [] (receipts_said receipts) (W.contents writer.old) (W.contents writer.new) (Err result) }
+    ensures own { is_of_line refusal ≡ true → NotWrongCluster (Err result) }
     ensures line { is_of_line refusal ≡ true → Notes {T = Unit {0}} (W.failed writer.old) (W.failed writer.new) (Err result) }
     ensures other { is_of_line refusal ≡ false → (result ≡ refusal) × (replica.new ≡ replica.old) × (writer.new ≡ writer.old) }
 {
+    parts_are_joined::<D>();
     if !is_of_line(refusal) {
         return refusal;
     }

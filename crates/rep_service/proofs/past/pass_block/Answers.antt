@@ -3,6 +3,7 @@ use Rattle.std.specs.Prelude.{Contains}
 use Rattle.std.proofs.lemmas.Bool.{le-ltb}
 use Rattle.rep_lines.specs.Feeds.{ahead}
 use Rattle.rep_follow.proofs.Noting.{source_kept, writer_kept}
+use Rattle.rep_service.proofs.Saying.{own_ok}
 use Rattle.rep_service.proofs.Records.{RecordsSo, records_none, records_skip, records_more, records_end}
 use Rattle.rep_service.proofs.Passed.{passes_none, split_more, passes_more, durable_kept}
 use Rattle.rep_service.proofs.past.pass_block.Goals as goal
@@ -63,4 +64,4 @@ returns-in-Ok-false-clause-within g c = λ within. (let kept = durable_kept g.D.
 pub records-init : goal.records-init
 records-init g c =
     let text = ahead c.args.input.now.feed (g.R.Source.remaining c.args.source.now) in
-    record { passes = records_none c.args.block.records c.args.position.now text; split = ([], refl); lives = passes_none g.D.Disk 0 (Contains c.args.block.records) c.parts_are_joined.ensures c.args.position.now c.args.replica.now text _ (Ok tt); within = λ within. within; told = c.requires; source = refl; writer = refl }
+    record { passes = records_none c.args.block.records c.args.position.now text; split = ([], refl); lives = passes_none g.D.Disk 0 (Contains c.args.block.records) c.parts_are_joined.ensures c.args.position.now c.args.replica.now text _ (Ok tt) own_ok; within = λ within. within; told = c.requires; source = refl; writer = refl }

@@ -28,13 +28,13 @@ returns-in-Ok-follow_order-clause-lives g c =
     let order = c.in-Ok-follow_order.ensures.lives in
     let closed = c.end_text.ensures.lives (order.lives.rests c.requires.rests) in
     text_follows g.D.Disk c.in-Ok.position c.args.replica.now c.end_text.new.replica _ _ _ _ _ _ _ _ closed.0 c.end_text.result opens c.in-Ok.ensures.within
-    (order_ended g.D.Disk c.parts_are_joined.ensures c.in-Ok.position c.args.replica.now c.follow_order.new.replica c.end_text.new.replica _ _ _ _ _ closed.0 c.end_text.result order closed.1)
+    (order_ended g.D.Disk c.parts_are_joined.ensures c.in-Ok.position c.args.replica.now c.follow_order.new.replica c.end_text.new.replica _ _ _ _ _ closed.0 c.end_text.result c.end_text.ensures.own order closed.1)
     (at_the_end _ c.follow_order.new.input.feed (rest c.follow_order.new.source) c.end_text.result _ (λ cut. (c.end_text.ensures.ends.cut cut).0) c.in-Ok-follow_order.ensures.ended.1 closed.2)
 
 pub returns-in-Err-follow_order-clause-lives : goal.returns-in-Err-follow_order-clause-lives
 returns-in-Err-follow_order-clause-lives g c =
     let opens = rw c.new-input.ensures.feed at (rw c.new-input.ensures.number at c.in-Ok.ensures.opens) in
     let e = c.in-Err-follow_order.refusal in
-    let behind = order_behind g.D.Disk c.parts_are_joined.ensures c.in-Ok.position c.args.replica.now c.follow_order.new.replica c.end_behind.new.replica _ _ _ _ _ e c.end_behind.result (is_of_line e) refl c.in-Err-follow_order.ensures.lives c.end_behind.ensures.lives
+    let behind = order_behind g.D.Disk c.parts_are_joined.ensures c.in-Ok.position c.args.replica.now c.follow_order.new.replica c.end_behind.new.replica _ _ _ _ _ e c.end_behind.result (is_of_line e) refl c.in-Err-follow_order.ensures.lives c.end_behind.ensures.own c.end_behind.ensures.lives
     (λ is. (let other = c.end_behind.ensures.other is in (other.0, other.1, ap g.W.Sink.contents other.2))) in
     text_follows g.D.Disk c.in-Ok.position c.args.replica.now c.end_behind.new.replica _ _ _ _ _ _ _ _ behind.0 (Err c.end_behind.result) opens c.in-Ok.ensures.within behind.1 tt

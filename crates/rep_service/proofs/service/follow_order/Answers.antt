@@ -10,7 +10,7 @@ pub returns-in-Err-clause-lives : goal.returns-in-Err-clause-lives
 returns-in-Err-clause-lives g c = order_not g.D.Disk c.args.position c.args.replica.now c.pass_durable.new.replica _ _ c.pass_durable.new.position _ _ c.in-Err.refusal c.in-Err.ensures.lives
 
 pub returns-in_default-clause-lives : goal.returns-in_default-clause-lives
-returns-in_default-clause-lives g c = order_stopped g.D.Disk c.args.position c.args.replica.now c.pass_durable.new.replica _ _ c.pass_durable.new.position _ _ Exhausted c.in-Ok-true.ensures.lives
+returns-in_default-clause-lives g c = order_stopped g.D.Disk c.args.position c.args.replica.now c.pass_durable.new.replica _ _ c.pass_durable.new.position _ _ Exhausted (λ is. cc) c.in-Ok-true.ensures.lives
 
 pub returns-clause-lives : goal.returns-clause-lives
 returns-clause-lives g c =

@@ -22,4 +22,4 @@ loop-preserved g c = record {
 }
 
 pub returns-clause-lives : goal.returns-clause-lives
-returns-clause-lives g c = lines_as g.D.Disk c.parts_are_joined.ensures _ _ _ _ _ _ _ _ (Err Exhausted) c.loop.invariant.lives
+returns-clause-lives g c = lines_as g.D.Disk c.parts_are_joined.ensures _ _ _ _ _ _ _ _ (Err Exhausted) (λ is. cc) c.loop.invariant.lives
