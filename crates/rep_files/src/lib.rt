@@ -199,8 +199,10 @@ pub fn print_state<'a, R: Files<File = File> + Print + AllocGlobal + Clock>(
     have: Option<&'a str>,
 ) -> Result<(), Fault<'a>> {
     let saved = saved_in_file(rt, saved)?;
-    let replica = opened_to_read(rt, path)?;
-    tell_state(rt, path, &replica, saved.as_ref(), have)
+    match opened_to_read(rt, path) {
+        Ok(replica) => tell_state(rt, path, &replica, saved.as_ref(), have),
+        Err(fault) => Err(fault),
+    }
 }
 
 /// What a joiner has, in the file at this path.
@@ -266,6 +268,20 @@ fn tell_donated<'a, R: Print>(rt: &R, last: u64) -> Result<(), Fault<'a>> {
     }
 }
 
+/// Prints the line of what was donated of the disk at this path, or says why nothing was.
+fn told_of<'a, R: Print>(
+    rt: &R,
+    path: &'a str,
+    disk: DiskOnFile,
+    donated: Result<u64, Fault<'a>>,
+) -> Result<(), Fault<'a>> {
+    match donated {
+        Ok(last) => tell_donated(rt, last),
+        Err(fault) if fault.refusal() == Refusal::StreamFault => Err(fault),
+        Err(fault) => Err(disk_fault(disk, fault.refusal()).of(path)),
+    }
+}
+
 /// Writes for the joiner what it lacks of the order on the disk at this path, into the file at the last one, once nothing else refuses it; and
 /// prints the line of that once the file has its name, which it has only once it is whole. What the joiner has is read from the file at the
 /// other path before the disk is looked at, which is opened to read alone.
@@ -281,10 +297,49 @@ pub fn donate_to_file<'a, R: Files<File = File> + Print + AllocGlobal + Clock>(
 ) -> Result<(), Fault<'a>> {
     let have = have_in_file(rt, have)?;
     let mut replica = opened_to_read(rt, path)?;
-    match donate_from(rt, path, &mut replica, &have, out) {
-        Ok(last) => tell_donated(rt, last),
-        Err(fault) if fault.refusal() == Refusal::StreamFault => Err(fault),
-        Err(fault) => Err(disk_fault(replica.into_disk(), fault.refusal()).of(path)),
+    let donated = donate_from(rt, path, &mut replica, &have, out);
+    told_of(rt, path, replica.into_disk(), donated)
+}
+
+/// The fault of a join, by the transfer in the file at the other path, that was refused so: it is that file's, that of standard output, or the
+/// disk's.
+fn join_fault<'a, W: Drop>(
+    disk: DiskOnFile,
+    path: &'a str,
+    file: &Noted<File>,
+    from: &'a str,
+    output: &Noted<W>,
+    refusal: Refusal,
+) -> Fault<'a> {
+    match refusal {
+        Refusal::StreamFault => stream_fault(file, from, output),
+        Refusal::Malformed { .. } => {
+            let cause = Cause::Words("the part there is cut short, changed, or none that may come");
+            Fault::new(refusal, cause).of(from)
+        }
+        _ => disk_fault(disk, refusal).of(path),
+    }
+}
+
+/// Brings the node of this replica, on the disk at this path, up to date by the transfer in the file at the other one.
+fn join_by<'a, R: Print + AllocGlobal>(
+    rt: &R,
+    path: &'a str,
+    replica: OnFile,
+    from: &'a str,
+    mut file: Noted<File>,
+) -> Result<(), Fault<'a>> {
+    let mut output = Noted::new(io::writer(rt));
+    let (replica, outcome) = join_text(
+        rt.alloc(),
+        replica,
+        &mut ReaderSource::new(&mut file),
+        &mut WriterSink::new(&mut output),
+    );
+    let disk = replica.into_disk();
+    match outcome {
+        Ok(()) => Ok(()),
+        Err(refusal) => Err(join_fault(disk, path, &file, from, &output, refusal)),
     }
 }
 
@@ -296,22 +351,9 @@ pub fn join_from_file<'a, R: Files<File = File> + Print + AllocGlobal + Clock>(
     path: &'a str,
     from: &'a str,
 ) -> Result<(), Fault<'a>> {
-    let mut file = file_at(rt, from)?;
-    let replica = opened_file(rt, path)?;
-    let mut output = Noted::new(io::writer(rt));
-    let (replica, outcome) = join_text(
-        rt.alloc(),
-        replica,
-        &mut ReaderSource::new(&mut file),
-        &mut WriterSink::new(&mut output),
-    );
-    match outcome {
-        Ok(()) => Ok(()),
-        Err(Refusal::StreamFault) => Err(stream_fault(&file, from, &output)),
-        Err(Refusal::Malformed { at }) => {
-            let cause = Cause::Words("the part there is cut short, changed, or none that may come");
-            Err(Fault::new(Refusal::Malformed { at }, cause).of(from))
-        }
-        Err(refusal) => Err(disk_fault(replica.into_disk(), refusal).of(path)),
+    let file = file_at(rt, from)?;
+    match opened_file(rt, path) {
+        Ok(replica) => join_by(rt, path, replica, from, file),
+        Err(fault) => Err(fault),
     }
 }

@@ -1,6 +1,6 @@
 //! The sum of a disk.
 
-use crate::disk_file::{disk_fault, opened_to_read};
+use crate::disk_file::{OnFile, disk_fault, opened_to_read};
 use rep_reasons::{Fault, Noted, OUTPUT};
 use rep_script::sum_text;
 use rep_streams::WriterSink;
@@ -8,6 +8,23 @@ use rep_types::Refusal;
 use std::fs::{File, Files};
 use std::io;
 use std::rt::Clock;
+
+/// Prints the sum of this replica, on the disk at this path.
+fn print_sum_of<'a, R: Print>(
+    rt: &R,
+    path: &'a str,
+    mut replica: OnFile,
+    position: Option<u64>,
+) -> Result<(), Fault<'a>> {
+    let mut output = Noted::new(io::writer(rt));
+    let outcome = sum_text(&mut replica, position, &mut WriterSink::new(&mut output));
+    let disk = replica.into_disk();
+    match outcome {
+        Ok(()) => Ok(()),
+        Err(Refusal::StreamFault) => Err(output.fault().of(OUTPUT)),
+        Err(refusal) => Err(disk_fault(disk, refusal).of(path)),
+    }
+}
 
 /// Prints the sum of the rows on the disk at this path, which is opened to read alone: at this position, or at what is durable.
 ///
@@ -18,11 +35,8 @@ pub fn print_sum<'a, R: Files<File = File> + Print + AllocGlobal + Clock>(
     path: &'a str,
     position: Option<u64>,
 ) -> Result<(), Fault<'a>> {
-    let mut replica = opened_to_read(rt, path)?;
-    let mut output = Noted::new(io::writer(rt));
-    match sum_text(&mut replica, position, &mut WriterSink::new(&mut output)) {
-        Ok(()) => Ok(()),
-        Err(Refusal::StreamFault) => Err(output.fault().of(OUTPUT)),
-        Err(refusal) => Err(disk_fault(replica.into_disk(), refusal).of(path)),
+    match opened_to_read(rt, path) {
+        Ok(replica) => print_sum_of(rt, path, replica, position),
+        Err(fault) => Err(fault),
     }
 }
