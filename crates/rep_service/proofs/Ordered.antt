@@ -40,6 +40,17 @@ told_both uuid p L at (s ∷ a) b one two =
     let same : at + length (receipts_in (s ∷ a)) ≡ (at + length (receipt_in s)) + length (receipts_in a) = omega (arith, count) in
     (one.0, told_both uuid p L (at + length (receipt_in s)) a b one.1 (subst (λ k. AreTold uuid p L k b) same two))
 
+-- of the same order, at the same position
+told_as : (u v : List ℕ) (p q : Setting) (L M : Order) (j k : ℕ) (said : List Said) → u ≡ v → p ≡ q → L ≡ M → j ≡ k → AreTold u p L j said → AreTold v q M k said
+told_as u v p q L M j k said uuid setting order at told =
+    subst (λ x. AreTold x q M k said) uuid (subst (λ x. AreTold u x M k said) setting (subst (λ x. AreTold u p x k said) order (subst (λ x. AreTold u p L x said) at told)))
+
+parted : (L : Order) (items more : List Item) (rest : Order) → ((L ++ items) ++ more) ++ rest ≡ (L ++ (items ++ more)) ++ rest
+parted L items more rest = ap (λ l. l ++ rest) (append_assoc L items more)
+
+goes_on : (L : Order) (items more : List Item) (rest : Order) → (L ++ items) ++ (more ++ rest) ≡ (L ++ (items ++ more)) ++ rest
+goes_on L items more rest = sym (append_assoc (L ++ items) more rest) ∙ parted L items more rest
+
 no_reply : {A : Type 0} (r : Reply) (rs : List Reply) → r ∷ rs ≡ [] → A
 no_reply r rs is = absurd cc
 
@@ -107,16 +118,10 @@ module _ {D : Type 0} (g : Ghosts D) where
     pub tells_both : (old mid : Replica D) (items more : List Item) (first others : List Said) → Follows g old mid items (receipts_in first) → TellsTheOrder g old items first → TellsTheOrder g mid more others → TellsTheOrder g old (items ++ more) (first ++ others)
     tells_both old mid items more first others follows one two n L rest holds of =
         let kept = parts.order old mid items (receipts_in first) follows n L holds of in
-        let whole = (L ++ (items ++ more)) ++ rest in
-        let parted : ((L ++ items) ++ more) ++ rest ≡ whole = ap (λ l. l ++ rest) (append_assoc L items more) in
-        let here : (L ++ items) ++ (more ++ rest) ≡ whole = sym (append_assoc (L ++ items) more rest) ∙ parted in
-        let d = (facts_of g old).durable in
-        let front : AreTold n.facts.uuid n.facts.setting whole d first = subst (λ l. AreTold n.facts.uuid n.facts.setting l d first) here (one n L (more ++ rest) holds of) in
-        let back : AreTold kept.node.facts.uuid kept.node.facts.setting whole (facts_of g mid).durable others = subst (λ l. AreTold kept.node.facts.uuid kept.node.facts.setting l (facts_of g mid).durable others) parted (two kept.node (L ++ items) rest kept.holds kept.of) in
-        told_both n.facts.uuid n.facts.setting whole d first others front
-        (subst (λ k. AreTold n.facts.uuid n.facts.setting whole k others) follows.durable.durable
-        (subst (λ q. AreTold n.facts.uuid q whole (facts_of g mid).durable others) kept.setting_is
-        (subst (λ u. AreTold u kept.node.facts.setting whole (facts_of g mid).durable others) kept.uuid_is back)))
+        told_both n.facts.uuid n.facts.setting ((L ++ (items ++ more)) ++ rest) (facts_of g old).durable first others
+        (told_as n.facts.uuid n.facts.uuid n.facts.setting n.facts.setting ((L ++ items) ++ (more ++ rest)) ((L ++ (items ++ more)) ++ rest) (facts_of g old).durable (facts_of g old).durable first refl refl (goes_on L items more rest) refl (one n L (more ++ rest) holds of))
+        (told_as kept.node.facts.uuid n.facts.uuid kept.node.facts.setting n.facts.setting (((L ++ items) ++ more) ++ rest) ((L ++ (items ++ more)) ++ rest) (facts_of g mid).durable ((facts_of g old).durable + length (receipts_in first)) others kept.uuid_is kept.setting_is
+        (parted L items more rest) follows.durable.durable (two kept.node (L ++ items) rest kept.holds kept.of))
 
     -- ---- what is said at what is durable
 
