@@ -1,6 +1,6 @@
 -- How a checkpoint begins.
 use Rattle.std.proofs.Common.{◌≡◌, ℕ, Bool, true, false, List, [], ◌∷◌, ◌++◌, map, Option, None, Some, Result, Ok, Err, refl, sym, ap, ◌∙◌, ◌⊎◌, inl, inr, arith, subst}
-use Rattle.std.specs.Prelude.{MatchOption, IfErr, OnOk, not, nat_lt, nat_le, ◌&&◌, if◌then◌else◌}
+use Rattle.std.specs.Prelude.{MatchOption, IfErr, OnOk, not, nat_lt, nat_le, if◌then◌else◌}
 use Rattle.std.proofs.lemmas.Bool.Decides.{nat_tests}
 use Rattle.rep_types.proofs.Choices.{and_left, and_right}
 use Rattle.rep_types.specs.declared.judged.Judged.{Judged}

@@ -1,5 +1,5 @@
 -- Lives that are fed the lines of an order are fed the order.
-use Rattle.std.proofs.Common.{◌≡◌, ℕ, zero, suc, ◌+◌, ◌-◌, ◌<◌, ◌≤◌, List, [], ◌∷◌, ◌++◌, length, take, drop, inl, inr, refl, sym, ap, ◌∙◌, subst, append_assoc, append-nil, length-append, arith}
+use Rattle.std.proofs.Common.{◌≡◌, ℕ, zero, suc, ◌+◌, ◌-◌, List, [], ◌∷◌, ◌++◌, length, take, drop, inl, inr, refl, sym, ap, ◌∙◌, append_assoc, arith}
 use Rattle.std.proofs.lemmas.Bool.{cases_lt}
 use Rattle.std.proofs.lemmas.List.{take_at, take-append-drop, drop-append-le, drop-drop}
 use Rattle.std.proofs.Math.ListN.{drop_of_length-le}
@@ -14,7 +14,7 @@ use Rattle.rep_replica.specs.Replicas.{facts_of}
 use Rattle.rep_replica.specs.Episodes.{Episode, Runs, GivesUp, Brings, Breaks, Life, FedFrom, AreFed, LivesWithSnapshotsFollowTheOrder}
 use Rattle.rep_follow.specs.Committing.{BringNothing, accepted_in}
 use Rattle.rep_follow.specs.Taking.{items_in}
-use Rattle.rep_follow.specs.Followers.{AreOfOrder, IsFedLines, AreFedLines, FollowersFollowTheOrder}
+use Rattle.rep_follow.specs.Followers.{AreFedLines, FollowersFollowTheOrder}
 
 none_taken : (n : ℕ) → take {A = Item} n [] ≡ []
 none_taken zero = refl

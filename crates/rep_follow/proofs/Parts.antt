@@ -11,7 +11,7 @@ use Rattle.rep_disk.specs.declared.disk.Disk.{Ghosts}
 use Rattle.rep_steps.specs.Standings.{Standing, delivered}
 use Rattle.rep_steps.specs.Nodes.{Node}
 use Rattle.rep_steps.specs.Orders.{IsOf, NodesHoldTheOrder}
-use Rattle.rep_steps.specs.Runs.{accepted_by, acknowledged, RunsComeTo, RunsAnswerTheOrder}
+use Rattle.rep_steps.specs.Runs.{accepted_by, RunsComeTo, RunsAnswerTheOrder}
 use Rattle.rep_replica.specs.Replicas.{Replica, facts_of}
 use Rattle.rep_replica.specs.Holding.{Holds}
 use Rattle.rep_replica.specs.Episodes.{Episode, Runs, GivesUp, Brings, Breaks, IsStill, AreEpisodes, replies_of}

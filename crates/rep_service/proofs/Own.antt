@@ -5,7 +5,7 @@ use Rattle.uuid.specs.Parts.{is_nil_bytes}
 use Rattle.rep_types.specs.declared.item.Item.{Item}
 use Rattle.rep_types.specs.declared.item.Item.TheVariants.{WriteSet, SetWindow as OfChange}
 use Rattle.rep_types.specs.declared.refusal.Refusal.{Refusal}
-use Rattle.rep_types.specs.declared.refusal.Refusal.TheVariants.{DiskFault, Stopped, OutOfOrder, Backlogged, Undefined, Corrupt, Malformed, WrongCluster, Exhausted, StreamFault}
+use Rattle.rep_types.specs.declared.refusal.Refusal.TheVariants.{DiskFault, Stopped, OutOfOrder, Backlogged, Undefined, Corrupt, WrongCluster, Exhausted, StreamFault}
 use Rattle.rep_types.specs.declared.refusal.Part.{Part}
 use Rattle.rep_types.specs.declared.limits.TheConstants.{MAX_SEQNO, MAX_AHEAD}
 use Rattle.rep_disk.specs.declared.disk.Disk.{Ghosts}

@@ -1,5 +1,5 @@
 -- What is written of a command.
-use Rattle.std.proofs.Common.{◌≡◌, ◌≢◌, ℕ, inl, inr, Bool, List, [], Option, None, Result, Ok, Err, OnOk, OnErr, IfErr, take, refl, sym, ap, subst}
+use Rattle.std.proofs.Common.{◌≡◌, ◌≢◌, ℕ, inl, inr, Bool, List, Option, None, Result, Ok, Err, OnOk, OnErr, IfErr, take, refl, sym, ap, subst}
 use Rattle.std.specs.Prelude.{IfOk, MatchResult}
 use Rattle.std.specs.Io.KnownBytes.{Appends}
 use Rattle.rep_types.specs.declared.key.Key.{Key}
