@@ -6,4 +6,3 @@ pub mod Ruling
 pub mod Looking
 pub mod Growing
 pub mod Rows
-pub mod Showing

@@ -1,6 +1,5 @@
-mod InRow
-mod OfRows
-mod Pages
 pub mod Places
 pub mod Changes
+pub mod Newest
+pub mod Pages
 pub mod Following
