@@ -41,7 +41,7 @@ use Rattle.rep_checkpoint.specs.declared.stage.Part.{Part}
 use Rattle.rep_checkpoint.specs.declared.stage.Part.TheVariants.{Flushing, Saving, Ready, SuperFilling, SuperFilled, SuperOpening}
 use Rattle.rep_checkpoint.specs.declared.stage.Stage.TheVariants.{Off}
 use Rattle.rep_checkpoint.specs.Standing.{Standing as Checkpoint}
-use Rattle.rep_checkpoint.specs.Coming.{Coming, CanInstall, IsDue, blank, coming, gone, placed, settled, with_page}
+use Rattle.rep_checkpoint.specs.Coming.{Coming, CanInstall, IsComing, IsDue, blank, coming, gone, placed, settled, with_page}
 use Rattle.rep_checkpoint.specs.Installing.{BeginsToInstall, Installs, InstallsNext, InstallsPage}
 use Rattle.rep_checkpoint.specs.Arriving.{InstallsAs, InstallationsLeaveTheOldOrTheNew, InstallationsMakeTheNode, InstallationsStandBeside, InstallationsCanBeDropped, Arrives, installed}
 use Rattle.rep_checkpoint.specs.Moves.{found_at, next_part}
@@ -472,6 +472,24 @@ module _ {D : Type 0} (old : Engine D) (engine : IsEngine old.layout old.checkpo
     started = started;
     is_window = law.body base.params (base.number + 1) position v (omega (arith, engine.checkpoint.is_super.number, engine.checkpoint.is_super.position)) (omega (arith, b.limit)) b.window;
   }
+
+  reaches : (durable_of old.log < position) ⊎ IsNil base.uuid → durable_of old.log ≤ position
+  reaches (inl above) = omega (arith, above)
+  reaches (inr nil) = omega (arith, (engine.undefined (nil_bytes base.uuid nil)).0)
+
+  -- the snapshot, of which nothing is there yet, stands beside the engine
+  pub begins_beside : old.block ≡ [] → (i : Coming) → i ≡ coming base uuid position old.log.next v → IsComing base i.next → IsBeside old.checkpoint old.log old.block i × (i.part ≡ Flushing)
+  begins_beside none i is comes = (
+    record {
+      off = off;
+      resting = rests_by old.log.phase old.block none engine.whole;
+      none = none;
+      coming = comes;
+      start = ap (λ (k : Coming). k.next.super.start) is;
+      later = subst (λ (k : Coming). durable_of old.log ≤ k.next.super.position) (sym is) (reaches b.later);
+    },
+    ap (λ (k : Coming). k.part) is,
+  )
 
 pub can_install : WindowsGoOn → {D : Type 0} (old : Engine D) → IsEngine old.layout old.checkpoint old.log old.kept old.block → (uuid : List ℕ) (position : ℕ) (v : Window) → old.checkpoint.stage ≡ Off → CanBring old.checkpoint.base (durable_of old.log) uuid position v
     → CanInstall old.checkpoint uuid position old.log.next v

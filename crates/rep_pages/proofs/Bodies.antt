@@ -15,7 +15,7 @@ use Rattle.rep_pages.specs.Rows.{Rows, rows_form}
 use Rattle.rep_pages.specs.Pages.{IsFirstRow, EndWithTheTable, page_mark, head_bytes, IsPageBody, BeginsPage, head_of, head_form, page_bytes}
 
 -- a head takes 64 bytes, and 63 rows 4,032
-head_size : (head : Head) → length (head_bytes head) ≡ 64
+pub head_size : (head : Head) → length (head_bytes head) ≡ 64
 unfolding page_mark
 head_size head = simp (length-append, length_number, length_zeros) refl
 

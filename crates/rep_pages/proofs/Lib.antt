@@ -3,3 +3,4 @@ pub mod Unchanged
 pub mod Following
 pub mod Imaging
 pub mod Counting
+pub mod Spelled

@@ -4,3 +4,4 @@ pub mod Slots
 pub mod Pages
 pub mod PagesLaws
 pub mod Images
+pub mod Spelled

@@ -4,6 +4,7 @@ ghost use Rattle.std.specs.Prelude.{◌≡◌, ◌+◌, ◌<◌, ◌≤◌, ◌+
 ghost use Rattle.rep_types.specs.declared.key.Key.{Key};
 ghost use Rattle.rep_types.specs.declared.refusal.Part.TheVariants.{Pages};
 ghost use Rattle.rep_pages.specs.Pages.{IsFirstRow, IsRowCount, EndWithTheTable, IsPage, IsPageBody, BeginsPage, front_bytes, head_form};
+ghost use Rattle.rep_pages.specs.Spelled.{SpellRows, page_in};
 
 use crate::page_rows::{COUNT, PageRows};
 use arrayvec::ArrayVec;
@@ -18,7 +19,7 @@ use rep_types::{Key, MAX_PAGES, Part, ROWS_PER_PAGE, Refusal, Schema, Value};
 const MARK: &[u8; 8] = b"REPPAGE1";
 
 /// The number of bytes before the rows.
-const HEAD: usize = 64;
+pub(crate) const HEAD: usize = 64;
 
 /// The number of zeros behind the fields of the head.
 const HEAD_ZEROS: usize = 40;
@@ -166,15 +167,17 @@ fn read_head<'a>(
     Some((head.position, body))
 }
 
-/// Whether all of the bytes are the page of this number, as it was written for a position that is not above the latest one.
-fn is_body(schema: &Schema, number: u32, latest: u64, bytes: &[u8]) -> bool
-    ensures found { result ≡ true → (page : Page) × IsPageBody schema.now page bytes.now × (page.number ≡ number) × (page.position ≤ latest) }
-    ensures only { (page : Page) → IsPageBody schema.now page bytes.now → page.number ≡ number → page.position ≤ latest → result ≡ true }
+/// The position that the page of this number was written for, which is not above the latest one, where all of the bytes are the
+/// page.
+fn position_in(schema: &Schema, number: u32, latest: u64, bytes: &[u8]) -> Option<u64>
+    ensures found { IfSome result (λ position. (position ≤ latest) × IsPageBody schema.now (page_in number position bytes.now) bytes.now) }
+    ensures only { (page : Page) → IsPageBody schema.now page bytes.now → page.number ≡ number → page.position ≤ latest → (result ≡ Some page.position) × (page_in number page.position bytes.now ≡ page) }
 {
-    match read_head(schema, number, latest, bytes) {
-        Some((_, body)) => are_rows::<COUNT>(body, row_count(schema, number) as usize),
-        None => false,
+    let (position, body) = read_head(schema, number, latest, bytes)?;
+    if !are_rows::<COUNT>(body, row_count(schema, number) as usize) {
+        return None;
     }
+    Some(position)
 }
 
 impl Page {
@@ -252,6 +255,27 @@ impl Page {
         })
     }
 
+    /// The position that the page in the bytes was written for, for whoever keeps the bytes as they are (`SpelledPage`). It refuses what
+    /// `read_body` does, and as that does, in a third of the time.
+    pub fn position_in(
+        schema: &Schema,
+        number: u32,
+        latest: u64,
+        bytes: &[u8],
+    ) -> Result<u64, Refusal>
+        // Where it passes, the bytes spell the page that is in them.
+        ensures found { IfOk result (λ position. IsPageBody schema.now (page_in number position bytes.now) bytes.now × SpellRows bytes.now × (position ≤ latest)) }
+        // Where a page is spelled so, it is that one.
+        ensures only { (page : Page) → IsPageBody schema.now page bytes.now → page.number ≡ number → page.position ≤ latest → (result ≡ Ok page.position) × (page_in number page.position bytes.now ≡ page) }
+        // Anything else is refused.
+        ensures refused { IfErr result (λ e. e ≡ Refusal.Corrupt Pages) }
+    {
+        match position_in(schema, number, latest, bytes) {
+            Some(position) => Ok(position),
+            None => Err(Refusal::Corrupt { part: Part::Pages }),
+        }
+    }
+
     /// Whether `read_body` reads a page in the bytes, for whoever wants none of its rows, as an opening, which looks at each
     /// page once: it keeps nothing, and takes a third of the time. It refuses what `read_body` does, and as that does.
     pub fn check_body(
@@ -267,7 +291,7 @@ impl Page {
         // Anything else is refused.
         ensures refused { IfErr result (λ e. e ≡ Refusal.Corrupt Pages) }
     {
-        if !is_body(schema, number, latest, bytes) {
+        if position_in(schema, number, latest, bytes).is_none() {
             return Err(Refusal::Corrupt { part: Part::Pages });
         }
         Ok(())

@@ -1,5 +1,5 @@
 -- What is so of each page that is kept goes on being so.
-use Rattle.std.proofs.Common.{◌≡◌, ◌≢◌, refl, sym, ap, subst, ◌∙◌, ℕ, ◌-◌, inl, inr, Bool, true, false, cond, ◌∷◌, take, Option, None, Some, option_map, Contains, nat_eq, Result, Ok, Err, OnOk, OnErr}
+use Rattle.std.proofs.Common.{◌≡◌, ◌≢◌, refl, sym, ap, subst, ◌∙◌, ℕ, ◌-◌, inl, inr, Bool, true, false, cond, ◌∷◌, take, Option, None, Some, option_map, Contains, nat_eq}
 use Rattle.std.specs.Cmp.{nat_eq_equiv}
 use Rattle.std.specs.List.{IsDistinct}
 use Rattle.std.specs.Map.{keys_of, lookup, lookup_entry, remove_entry, set_value}
@@ -127,11 +127,3 @@ promoted_holds number old new is holds = subst Holds (sym is) (holds.0, used_eac
 
 pub removed_holds : (number : ℕ) (old new : LruCache ℕ Kept) → new ≡ lru_cache (remove_entry (nat_eq number) old.entries) old.cap → Holds old → Holds new
 removed_holds number old new is holds = subst Holds (sym is) (holds.0, without_each is_numbered number old.entries holds.1)
-
-pub put_holds : {T E : Type 0} (number : ℕ) (kept : Kept) (old new : LruCache ℕ Kept) (result : Result T E) → kept.page.number ≡ number → OnOk result (new ≡ lru_cache (put_entries nat_eq old number kept) old.cap) → OnErr result (new ≡ old) → Holds old → Holds new
-put_holds number kept old new (Ok x) same done failed holds = subst Holds (sym done) (holds.0, put_each is_numbered number kept old same holds.1)
-put_holds number kept old new (Err e) same done failed holds = subst Holds (sym failed) holds
-
-pub over_holds : (number : ℕ) (kept was : Kept) (old : LruCache ℕ Kept) → kept.page.number ≡ number → lookup (nat_eq number) old.entries ≡ Some was → Holds old
-    → Holds (lru_cache (set_value (nat_eq number) (promoted (nat_eq number) old.entries) kept) old.cap)
-over_holds number kept was old same is holds = (holds.0, subst AreNumbered (sym (written_over number kept was old is)) (put_each is_numbered number kept old same holds.1))

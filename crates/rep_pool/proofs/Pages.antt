@@ -23,8 +23,9 @@ use Rattle.rep_pages.specs.declared.page.Page.{Page as PageBody}
 use Rattle.rep_pages.specs.Slots.{state_of_page}
 use Rattle.rep_pages.specs.Pages.{IsPageBody, PagesAreTold}
 use Rattle.rep_pages.specs.Rows.{Rows, row_at}
+use Rattle.rep_pages.specs.Spelled.{SpellRows, page_in}
 use Rattle.rep_pool.specs.Pools.{IsSpelled}
-use Rattle.rep_pool.specs.BasePages.{HasPage, IsPageAsSpelled, ReadsPage, IsRowUpTo, IsRowOfPage}
+use Rattle.rep_pool.specs.BasePages.{HasPage, IsPageAsSpelled, ReadsPage, page_read, IsRowUpTo, IsRowOfPage}
 
 -- in one slot it stands
 pub same_slot : (b : SuperBody) (number : ℕ) (slot other : Slot) → state_of_page b number ≡ In slot → state_of_page b number ≡ In other → slot ≡ other
@@ -84,6 +85,20 @@ taken_as r b number slot bytes result there shown takes = record {
     shown = shown;
     none = λ page is_page is_it earlier. let no = sym e ∙ takes.only page is_page is_it earlier in absurd cc;
   };
+}
+
+-- what was read into a room is taken so
+pub takes_read : (b : SuperBody) (number : ℕ) (bytes : List ℕ) (result : Result ℕ Refusal)
+    → IfOk result (λ position. IsPageBody b.params.rows (page_in number position bytes) bytes × SpellRows bytes × (position ≤ b.position))
+    → ((page : PageBody) → IsPageBody b.params.rows page bytes → page.number ≡ number → page.position ≤ b.position → (result ≡ Ok page.position) × (page_in number page.position bytes ≡ page))
+    → Takes b number bytes (page_read number bytes result)
+takes_read b number bytes (Ok position) found only = record {
+  found = (found.0, refl, found.2);
+  only = λ page is at earlier. let told = only page is at earlier in ap (page_read number bytes) told.0 ∙ ap Ok told.1;
+}
+takes_read b number bytes (Err e) found only = record {
+  found = tt;
+  only = λ page is at earlier. let told = only page is at earlier in ap (page_read number bytes) told.0 ∙ ap Ok told.1;
 }
 
 -- where no write has failed each place is readable

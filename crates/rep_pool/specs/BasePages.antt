@@ -18,6 +18,8 @@ use Rattle.rep_pages.specs.declared.page.Page.{Page as PageBody}
 use Rattle.rep_pages.specs.Slots.{state_of_page}
 use Rattle.rep_pages.specs.Pages.{IsPageBody}
 use Rattle.rep_pages.specs.Rows.{row_at}
+use Rattle.rep_pages.specs.Spelled.{page_in}
+use Rattle.rep_pool.specs.declared.pool.Kept.{Kept}
 use Rattle.rep_pool.specs.Pools.{Pooled, IsKept, Agrees}
 
 -- ---- what a reading has of a page
@@ -68,6 +70,15 @@ pub record IsPageAsSpelled (r : Reading) (b : SuperBody) (number : ℕ) (result 
 -- A page is read: on an honest device on which no write has failed since the last sync that succeeded, its bytes decide.
 abbrev pub ReadsPage : {D : Type 0} → Ghosts D → Layout → SuperBody → ℕ → D → Result PageBody Refusal → Type 0
 ReadsPage g l b number old result = g.honest old → failed (g.history old) ≡ [] → IsPageAsSpelled (reading_of l (seen (g.history old))) b number result
+
+-- what was read into a room: the page that the bytes there spell, as it was written for a position
+abbrev pub page_read : ℕ → List ℕ → Result ℕ Refusal → Result PageBody Refusal
+page_read number bytes (Ok position) = Ok (page_in number position bytes)
+page_read number bytes (Err e) = Err e
+
+-- that page as it is kept
+abbrev pub kept_in : ℕ → Slot → ℕ → List ℕ → Kept
+kept_in number slot position bytes = record { slot = slot; page = page_in number position bytes }
 
 -- So they do where the pool agrees with the device.
 abbrev pub GivesPage : {D : Type 0} → Ghosts D → Layout → SuperBody → ℕ → D → Pooled → Result PageBody Refusal → Type 0

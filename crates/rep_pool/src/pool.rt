@@ -17,20 +17,22 @@ ghost use Rattle.rep_cells.specs.Faults.{fault_of};
 ghost use Rattle.rep_pages.specs.declared.page.Page.{Page as PageBody};
 ghost use Rattle.rep_pages.specs.Slots.{state_of_page};
 ghost use Rattle.rep_pages.specs.Rows.{row_at};
+ghost use Rattle.rep_pages.specs.Spelled.{SpellRows};
 ghost use Rattle.rep_pool.specs.Pools.{found, used, without_page, AreNumbered, IsKept, IsFree};
-ghost use Rattle.rep_pool.specs.BasePages.{ReadsPage, GivesPage, GivesRow, GoesOn, IsKeptAnew, IsRowUpTo};
+ghost use Rattle.rep_pool.specs.BasePages.{ReadsPage, page_read, kept_in, GivesPage, GivesRow, GoesOn, IsKeptAnew, IsRowUpTo};
 
 use lru::LruCache;
 use rep_cells::{Cells, refusal_of};
 use rep_disk::Disk;
 use rep_layout::{PAGE_BODY, PageState, Place, RowPlace, Slot, SuperBody};
-use rep_pages::{Page, pages_are_told, slot_of};
+use rep_pages::{Page, SpelledPage, pages_are_told, row_of_bytes, slot_of};
 use rep_types::{Boxed, Part, Refusal, Value};
 use std::alloc::Global;
 use std::marker::Model;
+use std::mem;
 use std::num::NonZeroUsize;
 
-/// How many pages a pool keeps: some 300 KiB.
+/// How many pages a pool keeps: 256 KiB of bytes.
 pub const POOL_PAGES: usize = 64;
 
 /// The number of pages that a pool keeps.
@@ -42,7 +44,18 @@ pub fn pool_pages_are_64()
 #[derive(Drop)]
 pub struct Kept {
     pub slot: Slot,
-    pub page: Page,
+    pub page: SpelledPage,
+}
+
+/// Room for the bytes of pages, on the heap. A page that is kept stays where it was read, and other room takes that room's place.
+#[derive(Drop)]
+struct Rooms {
+    /// Where the next page is read.
+    next: Boxed<[u8; PAGE_BODY]>,
+    /// The room of a page that went.
+    spare: Option<Boxed<[u8; PAGE_BODY]>>,
+    /// Where more is had.
+    alloc: Global,
 }
 
 /// The pages of a device that were read last, at most 64, each once and as one of its two slots has it.
@@ -52,8 +65,8 @@ pub struct Kept {
 /// base asks for the other one.
 #[derive(Drop)]
 pub struct Pool {
-    alloc: Global,
-    pages: LruCache<u32, Boxed<Kept>>,
+    rooms: Rooms,
+    pages: LruCache<u32, Kept>,
 }
 
 impl Model for Pool {
@@ -90,32 +103,83 @@ fn read_page<D: Disk>(
     Page::read_body(base.params.schema(), number, base.position, &body)
 }
 
+/// Reads the page as the device has it in the slot in which the base has it, into this room: the position that it was written for.
+fn read_into<D: Disk>(
+    room: &mut Boxed<[u8; PAGE_BODY]>,
+    cells: &mut Cells<D>,
+    base: &SuperBody,
+    number: u32,
+    slot: Slot,
+) -> Result<u64, Refusal>
+    requires super_body { IsSuper base.now }
+    requires layout { layout_of cells.old ≡ places_of base.now.params }
+    requires there { state_of_page base.now number ≡ In slot }
+    ensures call { Calls D.Disk (disk_of cells.old) (disk_of cells.new) (fault_of result) }
+    ensures layout { layout_of cells.new ≡ layout_of cells.old }
+    ensures same { SameHistory D.Disk (disk_of cells.old) (disk_of cells.new) }
+    ensures rows { IfOk result (λ _. SpellRows room.new) }
+    ensures reads { ReadsPage D.Disk (layout_of cells.old) base.now number (disk_of cells.old) (page_read number room.new result) }
+    ensures refused { IfErr result (λ e. (e ≡ DiskFault) ⊎ (e ≡ Corrupt Pages)) }
+{
+    refusal_of(cells.read_area(Place::Page(number, slot), room.get_mut()))?;
+    Page::position_in(base.params.schema(), number, base.position, room.get())
+}
+
 /// Whether a page is of the base: it was not written for a later position.
-fn is_earlier(page: &Page, base: &SuperBody) -> Result<(), Refusal>
-    ensures earlier { IfOk result (λ _. page.now.position ≤ base.now.position) }
-    ensures only { page.now.position ≤ base.now.position → result ≡ Ok tt }
+fn is_earlier(position: u64, base: &SuperBody) -> Result<(), Refusal>
+    ensures earlier { IfOk result (λ _. position ≤ base.now.position) }
+    ensures only { position ≤ base.now.position → result ≡ Ok tt }
     ensures refused { IfErr result (λ e. e ≡ Corrupt Pages) }
 {
-    if page.position > base.position {
+    if position > base.position {
         return Err(Refusal::Corrupt { part: Part::Pages });
     }
     Ok(())
 }
 
-/// A copy of the page's row at this place.
-fn row_in(page: &Page, index: u32) -> Option<Value>
-    ensures { result ≡ row_at page.now.rows index }
+/// New room. None where there is no memory for it.
+fn new_room(alloc: Global) -> Option<Boxed<[u8; PAGE_BODY]>> {
+    Boxed::new(alloc, [0; PAGE_BODY]).ok()
+}
+
+impl Rooms {
+    /// The room that takes the next room's place: what is spare, or else new room. None where there is no memory for it.
+    fn other(&mut self) -> Option<Boxed<[u8; PAGE_BODY]>>
+        ensures { self.new.next ≡ self.old.next }
+    {
+        if let Some(room) = self.spare.take() {
+            return Some(room);
+        }
+        new_room(self.alloc)
+    }
+}
+
+/// Keeps the page that was read into the next room. Where room for it is refused, it is not kept.
+fn keep(pages: &mut LruCache<u32, Kept>, rooms: &mut Rooms, number: u32, slot: Slot, position: u64)
+    requires rows { SpellRows rooms.old.next }
+    requires cap { pages.old.cap ≡ POOL_PAGES }
+    ensures kept { IsKept number (kept_in number slot position rooms.old.next) pages.old.entries pages.new.entries }
+    ensures cap { pages.new.cap ≡ POOL_PAGES }
 {
-    match page.rows.row(index) {
-        Some(value) => Some(value.copied()),
-        None => None,
+    if let Some(kept) = pages.get_mut(&number) {
+        kept.slot = slot;
+        kept.page.replace(number, position, &mut rooms.next);
+        return;
+    }
+    let Some(other) = rooms.other() else {
+        return;
+    };
+    let bytes = mem::replace(&mut rooms.next, other);
+    let page = SpelledPage::new(number, position, bytes);
+    if let Ok(Some((_, gone))) = pages.push(number, Kept { slot, page }) {
+        rooms.spare = Some(gone.page.into_bytes());
     }
 }
 
 impl Pool {
     /// A pool that keeps no page yet.
     ///
-    /// Refuses with `OutOfMemory` where there is no room for its table.
+    /// Refuses with `OutOfMemory` where there is no room for its table, or for the bytes of a page.
     pub fn new(alloc: Global) -> Result<Pool, Refusal>
         ensures empty { IfOk result (λ pool. pool ≡ []) }
         ensures refused { IfErr result (λ e. e ≡ Refusal.OutOfMemory) }
@@ -123,35 +187,29 @@ impl Pool {
         let Some(room) = NonZeroUsize::new(POOL_PAGES) else {
             unreachable!();
         };
-        Ok(Pool {
+        let Some(next) = new_room(alloc) else {
+            return Err(Refusal::OutOfMemory);
+        };
+        let rooms = Rooms {
+            next,
+            spare: None,
             alloc,
+        };
+        Ok(Pool {
+            rooms,
             pages: LruCache::new(alloc, room)?,
         })
     }
 
     /// What is kept of the page as this slot had it.
-    fn found(&self, number: u32, slot: Slot) -> Option<&Page>
+    fn found(&self, number: u32, slot: Slot) -> Option<&SpelledPage>
         ensures { option_copied result ≡ found number slot self.now }
     {
-        let kept = self.pages.peek(&number)?.get();
+        let kept = self.pages.peek(&number)?;
         if kept.slot != slot {
             return None;
         }
         Some(&kept.page)
-    }
-
-    /// Keeps a page. Where room for it is refused, it is not kept.
-    fn keep(&mut self, number: u32, kept: Kept)
-        requires { kept.page.number ≡ number }
-        ensures { IsKept number kept self.old self.new }
-    {
-        if let Some(place) = self.pages.get_mut(&number) {
-            *place.get_mut() = kept;
-            return;
-        }
-        if let Ok(kept) = Boxed::new(self.alloc, kept) {
-            drop(self.pages.put(number, kept));
-        }
     }
 
     /// Lets go what is kept of the page, and gives it where it is of this slot.
@@ -163,9 +221,9 @@ impl Pool {
         ensures numbered { AreNumbered self.old }
     {
         self.pages.len();
-        let kept = self.pages.pop(&number)?.into_inner();
+        let kept = self.pages.pop(&number)?;
         if kept.slot == slot {
-            Some(kept.page)
+            Some(kept.page.page())
         } else {
             None
         }
@@ -192,10 +250,10 @@ impl Pool {
         ensures none { found place.page slot self.old ≡ None → (result ≡ None) × (self.new ≡ self.old) }
     {
         let page = self.found(place.page, slot)?;
-        if let Err(refusal) = is_earlier(page, base) {
+        if let Err(refusal) = is_earlier(page.position(), base) {
             return Some(Err(refusal));
         }
-        let row = row_in(page, place.index);
+        let row = page.row(place.index);
         self.pages.promote(&place.page);
         Some(Ok(row))
     }
@@ -234,9 +292,9 @@ impl Pool {
         if let Some(row) = self.row_of(base, place, slot) {
             return row;
         }
-        let page = read_page(cells, base, place.page, slot)?;
-        let row = row_in(&page, place.index);
-        self.keep(place.page, Kept { slot, page });
+        let position = read_into(&mut self.rooms.next, cells, base, place.page, slot)?;
+        let row = row_of_bytes(self.rooms.next.get(), place.index);
+        keep(&mut self.pages, &mut self.rooms, place.page, slot, position);
         Ok(row)
     }
 
@@ -273,7 +331,7 @@ impl Pool {
             return Ok(Page::absent(number));
         };
         match self.take(number, slot) {
-            Some(page) => match is_earlier(&page, base) {
+            Some(page) => match is_earlier(page.position, base) {
                 Ok(()) => Ok(page),
                 Err(refusal) => Err(refusal),
             },

@@ -6,3 +6,4 @@ pub mod Ruling
 pub mod Looking
 pub mod Growing
 pub mod Rows
+pub mod Showing

@@ -1,5 +1,6 @@
+mod InRow
+mod OfRows
+mod Pages
 pub mod Places
 pub mod Changes
-pub mod Newest
-pub mod Pages
 pub mod Following

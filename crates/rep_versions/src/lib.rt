@@ -3,6 +3,7 @@
 #![tactic(auto)]
 
 mod laws;
+mod row;
 mod versions;
 
 pub use laws::{add_is_taken_back, versions_follow_the_items};

@@ -1,16 +1,17 @@
 //! The versions of rows, by key and seqno.
 
-ghost use Rattle.std.specs.Prelude.{◌≡◌, OnOk, OnErr, IfOk, IfErr, IsSome, IfSome, IsNone};
+ghost use Rattle.std.specs.Prelude.{◌≡◌, OnOk, OnErr, IfOk, IfErr, IsOk, IsSome, IfSome, IsNone, ℕ};
 ghost use Rattle.std.specs.FinMap as map;
 ghost use Rattle.rep_types.specs.declared.refusal.Refusal.TheVariants.{OutOfMemory};
 ghost use Rattle.rep_types.specs.Items.{writes_of};
-ghost use Rattle.rep_layout.specs.Rows.{row_place};
 ghost use Rattle.rep_versions.specs.Versions.{IsAdded, IsTakenBack, IsPruned, IsAnswer, ArePages, IsWithin, NotesPage, restored};
+ghost use Rattle.rep_versions.specs.Rows.{made_at, ChangesPage};
 
+use crate::row::Row;
 use rep_layout::{page_of, row_places_are_told};
-use rep_types::{Item, Key, Refusal, Schema, Value, Write};
+use rep_types::{Item, Key, MAX_PAGES, ROWS_PER_PAGE, Refusal, Schema, Value, Write};
 use std::alloc::Global;
-use std::collections::BTreeMap;
+use std::collections::HashMap;
 use std::marker::Model;
 
 /// The name of a version: a row, and the seqno of the item that wrote it. They are ordered by row, then
@@ -34,24 +35,42 @@ pub enum At<'a> {
     Below,
 }
 
+/// The most rows that a schema has.
+const ROWS: usize = MAX_PAGES as usize * ROWS_PER_PAGE as usize;
+
+/// From this number of rows on, the table has room for every row of a schema.
+///
+/// No secret goes into the place of a row in the table, so whoever picks the rows of an order can pick some that share a place. Among
+/// fewer rows than this, the worst set costs a look-up half a microsecond. In a table with room for every row no set is worse than all rows
+/// together, each of which is found a few steps from its place.
+const FEW_ROWS: usize = 2048;
+
 /// What items wrote: under the key of a row and the seqno of an item what the item put there, or `None`
 /// where it deleted the row.
+///
+/// The versions of a row stand together, in the order of their seqnos, and a table finds the row by its key.
 #[derive(Drop)]
 pub struct Versions {
-    kept: BTreeMap<VersionKey, Option<Value>>,
+    rows: HashMap<Key, Row>,
+    alloc: Global,
 }
 
 impl Model for Versions {
     ghost use Rattle.std.specs.Prelude.{ℕ, List, Option};
     ghost use Rattle.std.specs.Coded.{coded_option, coded_list, coded_ℕ};
     ghost use Rattle.std.specs.FinMap as map;
+    ghost use Rattle.std.specs.HashMap.{IsUnique};
+    ghost use Rattle.rep_types.specs.Keys.{key_eq};
     ghost use Rattle.rep_versions.specs.Versions.{Kept, version_cmp, coded_version_key};
+    ghost use Rattle.rep_versions.specs.Rows.{kept_of};
 
     ghost Value = { Kept };
 
     ghost coded = { map.code coded_version_key (coded_option (coded_list coded_ℕ)) };
 
-    ghost view = { λ v. map.from_entries {R = version_cmp} v.kept.entries };
+    ghost view = { λ v. kept_of v.rows.entries };
+
+    ghost invariant = { λ v. IsUnique key_eq v.rows };
 }
 
 impl Versions {
@@ -60,8 +79,56 @@ impl Versions {
         ensures { result ≡ map.empty }
     {
         Versions {
-            kept: BTreeMap::new(alloc),
+            rows: HashMap::new(alloc),
+            alloc,
         }
+    }
+
+    /// Makes room for every row of a schema, once there are `FEW_ROWS` rows: 12 MB, of which 2 are written at once. A table with that room
+    /// is left as it is.
+    ///
+    /// Refuses with `OutOfMemory` where the growth was refused.
+    fn make_room(&mut self) -> Result<(), Refusal>
+        ensures same { self.new ≡ self.old }
+        ensures refused { IfErr result (λ e. e ≡ OutOfMemory) }
+    {
+        let count = self.rows.len();
+        if count < FEW_ROWS || self.rows.capacity() >= ROWS {
+            return Ok(());
+        }
+        self.rows.reserve(ROWS.saturating_sub(count))?;
+        Ok(())
+    }
+
+    /// Puts the version, and says what it was before, if there was one. One that stands takes no memory.
+    fn put(
+        &mut self,
+        version: VersionKey,
+        value: Option<Value>,
+    ) -> Result<Option<Option<Value>>, Refusal>
+        ensures before { IfOk result (λ before. before ≡ map.get self.old version) }
+        ensures put { OnOk result (self.new ≡ map.insert self.old version value) }
+        ensures refused { IfErr result (λ e. (e ≡ OutOfMemory) × (self.new ≡ self.old)) }
+        ensures again { IsSome (map.get self.old version) → IsOk result }
+    {
+        match self.rows.get_mut(&version.key) {
+            Some(row) => row.put(version.seqno, value),
+            None => {
+                let row = Row::new(self.alloc, version.seqno, value)?;
+                self.rows.insert(version.key, row)?;
+                Ok(None)
+            }
+        }
+    }
+
+    /// Lets the version go, if it is there.
+    fn forget(&mut self, version: VersionKey)
+        ensures { self.new ≡ map.remove self.old version }
+    {
+        let Some(row) = self.rows.get_mut(&version.key) else {
+            return;
+        };
+        row.take_back(version.seqno);
     }
 
     /// Puts back what stood at a version that stands now, or takes the version away where nothing did.
@@ -70,13 +137,11 @@ impl Versions {
         ensures { self.new ≡ restored version before self.old }
     {
         match before {
-            Some(value) => match self.kept.insert(version, value) {
+            Some(value) => match self.put(version, value) {
                 Ok(_) => (),
                 Err(_) => unreachable!(),
             },
-            None => {
-                self.kept.remove(&version);
-            }
+            None => self.forget(version),
         }
     }
 
@@ -94,7 +159,8 @@ impl Versions {
             key: write.key,
             seqno,
         };
-        let before = self.kept.insert(version, write.copied().value)?;
+        self.make_room()?;
+        let before = self.put(version, write.copied().value)?;
         if let Err(refusal) = self.add_writes(seqno, rest) {
             self.restore(version, before);
             return Err(refusal);
@@ -117,27 +183,30 @@ impl Versions {
     pub fn take_back(&mut self, seqno: u64)
         ensures { IsTakenBack seqno self.old self.new }
     {
-        self.kept.retain(|version, _| version.seqno != seqno);
+        self.rows.retain(|_, row| row.take_back(seqno));
     }
 
     /// Lets the versions at and below this position go, and no other. It takes no memory.
     pub fn prune(&mut self, position: u64)
         ensures { IsPruned position self.old self.new }
     {
-        self.kept.retain(|version, _| version.seqno > position);
+        self.rows.retain(|_, row| row.prune(position));
     }
 
     /// What the row is at the snapshot of this seqno: what the newest of its versions at most there made
-    /// it. It costs a look-up of both ends of the row's versions, however many there are.
+    /// it. It costs a look-up of the row, and a binary search among its versions.
     pub fn at(&self, key: Key, seqno: u64) -> At<'_>
         ensures { IsAnswer self.now key seqno result }
     {
-        let first = VersionKey { key, seqno: 0 };
-        let last = VersionKey { key, seqno };
-        match self.kept.range(first..=last).next_back() {
-            Some((_, Some(value))) => At::Found(value),
-            Some((_, None)) => At::Deleted,
-            None => At::Below,
+        let Some(row) = self.rows.get(&key) else {
+            return At::Below;
+        };
+        let Some(version) = row.newest(seqno) else {
+            return At::Below;
+        };
+        match &version.1 {
+            Some(value) => At::Found(value),
+            None => At::Deleted,
         }
     }
 
@@ -157,24 +226,26 @@ impl Versions {
     {
         row_places_are_told();
         let mut pages = Vec::new(alloc);
-        for (version, _) in &self.kept {
-            let page = page_within(*version, schema, base, position);
+        for (key, row) in &self.rows {
+            let page = page_within(*key, row, schema, base, position);
             note_page(&mut pages, page)?;
         }
+        pages.sort_unstable();
+        pages.dedup();
         Ok(pages)
     }
 }
 
-/// The page of the version's row, where the version is above the base and at most at the position, and
-/// the schema has the row.
-fn page_within(version: VersionKey, schema: &Schema, base: u64, position: u64) -> Option<u32>
-    ensures some { IfSome result (λ page. IsWithin schema.now base position version × ((row_place schema.now version.key).page ≡ page)) }
-    ensures none { IsNone result → IsWithin schema.now base position version → ⊥ }
+/// The page of the row, where the row has a version above the base and at most at the position, and the schema has the row.
+fn page_within(key: Key, row: &Row, schema: &Schema, base: u64, position: u64) -> Option<u32>
+    ensures some { IfSome result (ChangesPage schema.now base position key row.now) }
+    ensures none { IsNone result → (s : ℕ) → IsSome (made_at row.now s) → IsWithin schema.now base position (record { key = key; seqno = s }) → ⊥ }
 {
-    if version.seqno <= base || version.seqno > position {
+    let version = row.newest(position)?;
+    if version.0 <= base {
         return None;
     }
-    let place = page_of(schema, version.key)?;
+    let place = page_of(schema, key)?;
     Some(place.page)
 }
 

@@ -1,12 +1,14 @@
-use Rattle.std.proofs.Common.{rules, ◌∙◌, ap, not, ◌==◌, None, if◌then◌else◌}
-use Rattle.std.proofs.lemmas.Map.Made.{filter_same_pairs}
+use Rattle.std.proofs.Common.{rules, ◌∙◌, ap, not, ◌==◌, ℕ, Bool, None, if◌then◌else◌}
 use Rattle.rep_versions.specs.Versions.{version_at}
+use Rattle.rep_versions.specs.Rows.{all_named}
 use Rattle.rep_versions.proofs.Places.{kept_where}
 use Rattle.rep_versions.proofs.Changes.{unless}
+use Rattle.rep_versions.proofs.OfRows.{all_where}
 use Rattle.rep_versions.proofs.versions.Versions.take_back.Goals as goal
 
 pub returns : goal.returns
 returns c = λ key s.
-    let left = filter_same_pairs _ (λ e. not (e.0.seqno == c.args.seqno)) _ (λ k v b w f' t. search rules) c.self.inside.kept.entries c.retain.new.self.entries c.retain.ensures.filtered in
-    kept_where (λ v. not (v.seqno == c.args.seqno)) c.self.inside.kept.entries c.retain.new.self.entries left (record { key = key; seqno = s })
+    let stays : ℕ → Bool = λ n. not (n == c.args.seqno) in
+    let left = all_where _ stays _ (λ k row b w f' t. search rules) c.self.inside.rows.entries c.retain.new.self.entries c.retain.ensures.filtered in
+    kept_where (λ v. stays v.seqno) (all_named c.self.inside.rows.entries) (all_named c.retain.new.self.entries) left (record { key = key; seqno = s })
     ∙ unless (s == c.args.seqno) _ ∙ ap (λ m. if s == c.args.seqno then None else version_at m key s) c.self.view_is
