@@ -297,6 +297,12 @@ module _ {D : Type 0} (g : Ghosts D) (old mid new : Replica D) (header : Header)
           cluster (inr nil) = inr (subst IsNil (settled.uuid ∙ ap (λ (x : Standing). x.uuid) (sym holds.facts)) nil)
 
 -- what is so of what isn't taken to its end
+-- what took all has nothing under way
+pub quiet_then : {D : Type 0} (g : Ghosts D) (mid new : Replica D) (header : Header) (before left : Option (List ℕ)) (result : Result ℕ Refusal)
+    → IfOk result (λ last. TakesAll g mid new header.format header.uuid last [] before left) → OnOk result (is_quiet (facts_of g new) ≡ true)
+quiet_then g mid new header before left (Ok last) all = all.quiet
+quiet_then g mid new header before left (Err e) all = tt
+
 pub not_joined : (start : Option (List ℕ)) (P : List ℕ → ℕ → Type 0) (e : Refusal) → IfSome start (λ bytes. IfOk {E = Refusal} (Err e) (P bytes))
 not_joined None P e = tt
 not_joined (Some bytes) P e = tt

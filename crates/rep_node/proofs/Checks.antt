@@ -106,3 +106,11 @@ module _ {D : Type 0} (g : Ghosts D) (first : List (Home D)) (w t : View (Home D
       by (Flush page) pruned = tt
       by Next pruned = tt
       by Sync pruned = tt
+
+-- ---- a step that begins none tells nothing
+
+pub says_none : {D : Type 0} (step : Step) (d : Desk D) → step ≢ Begin → None ≡ said_of step d
+says_none Begin d other = absurd (other refl)
+says_none (Flush page) d other = refl
+says_none Next d other = refl
+says_none Sync d other = refl

@@ -42,6 +42,18 @@ lived_once g joined stopped images moments old new start last events answers ope
       is_honest = subst g.honest (sym out) (stopped.of_node at.0 last at.2).is_honest;
     }
 
+-- a replica that was opened and did not run: no room for its answers
+pub lived_none : {D : Type 0} (g : Ghosts D) → StoppedReplicasHold g → (old new : D) (start last : Replica D) (e : Refusal) → Opens g (g.history old) start → last ≡ start → e ≡ OutOfMemory → new ≡ last.engine.disk
+    → IsUnlived g old e new
+lived_none g stopped old new start last e opens same memory out =
+    let is : new ≡ start.engine.disk = out ∙ ap (λ (r : Replica _). r.engine.disk) same in
+    record {
+      same = subst (λ (d : _). seen (g.history d) ≡ seen (g.history old)) (sym is) (ap seen opens.synced);
+      is_honest = subst g.honest (sym is) (stopped.of_node _ start opens.holds).is_honest;
+      reason = inl memory;
+      fault = λ fault. absurd (let never : OutOfMemory ≡ DiskFault = sym memory ∙ fault in cc);
+    }
+
 -- ---- one life more
 
 lives_more : {D : Type 0} (g : Ghosts D) (image : List ℕ) (lives : List (Life D)) (life : Life D) → Lives g image lives → IsLife g (left_by image lives) life

@@ -5,7 +5,7 @@ use Rattle.rep_replica.specs.Replicas.{facts_of}
 use Rattle.rep_catchup.specs.Joining.{Joined, TookTransfer}
 use Rattle.rep_catchup.proofs.JoinGrowing.{early_work, is_running}
 use Rattle.rep_catchup.proofs.JoinWent.{lived_none, lived_settling, lived_parts}
-use Rattle.rep_catchup.proofs.JoinFollowing.{not_joined, joined_on, took_on}
+use Rattle.rep_catchup.proofs.JoinFollowing.{not_joined, joined_on, took_on, quiet_then}
 use Rattle.rep_catchup.proofs.JoinCutting.{early_header, early_parts, ended_parts, or_stopped}
 use Rattle.rep_catchup.proofs.JoinTelling.{tells_then, tells_stopped, tells_header, grown_goes, told_then}
 use Rattle.rep_catchup.proofs.JoinNoting.{works_other, notes_none, notes_passed}
@@ -29,6 +29,10 @@ pub returns-in-Ok-clause-joined : goal.returns-in-Ok-clause-joined
 returns-in-Ok-clause-joined g c = λ n holds.
     joined_on g.D.Disk c.args.replica c.settle.new.replica c.take_parts.result.0 c.in-Ok.header n (g.R.Source.remaining c.args.reader.now) (g.R.Source.remaining c.take_header.new.reader)
     (g.R.Source.remaining c.take_parts.new.reader) c.take_parts.result.1 c.settle.ensures.grown holds c.in-Ok.ensures.taken c.take_parts.ensures.taken
+
+pub returns-in-Ok-clause-quiet : goal.returns-in-Ok-clause-quiet
+returns-in-Ok-clause-quiet g c =
+    quiet_then g.D.Disk c.settle.new.replica c.take_parts.result.0 c.in-Ok.header (g.R.Source.remaining c.take_header.new.reader) (g.R.Source.remaining c.take_parts.new.reader) c.take_parts.result.1 c.take_parts.ensures.taken
 
 pub returns-in-Ok-clause-ended : goal.returns-in-Ok-clause-ended
 returns-in-Ok-clause-ended g c = λ running.

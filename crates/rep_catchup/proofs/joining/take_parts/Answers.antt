@@ -10,7 +10,7 @@ use Rattle.rep_catchup.proofs.JoinTaking.{consumed, found_fits, none_found, coun
 use Rattle.rep_catchup.proofs.JoinFollowing.{all_behind, no_snapshot}
 use Rattle.rep_catchup.proofs.JoinCutting.{ends_at_none, no_snapshot_stands, short_none, short_records_on, no_front}
 use Rattle.rep_catchup.proofs.JoinTelling.{tells_malformed, tells_stream}
-use Rattle.rep_catchup.proofs.JoinNoting.{notes_then}
+use Rattle.rep_catchup.proofs.JoinNoting.{notes_then, notes_none, notes_passed}
 use Rattle.rep_catchup.proofs.joining.take_parts.Goals as goal
 
 -- ---- where no part is taken
@@ -84,3 +84,13 @@ returns-in-Ok-None-clause-tells g c = tells_malformed g.D.Disk c.args.replica c.
 
 pub returns-in-Err-clause-tells : goal.returns-in-Err-clause-tells
 returns-in-Err-clause-tells g c = tells_stream g.D.Disk c.args.replica c.in-Err.refusal c.in-Err.ensures.refused
+
+-- ---- what is noted of the source
+
+pub returns-in-Ok-None-clause-notes : goal.returns-in-Ok-None-clause-notes
+returns-in-Ok-None-clause-notes g c =
+    notes_none (c.next_part.ensures.notes.fine (λ fault. let never : Ok c.in-Ok-None.field-0 ≡ Err StreamFault = sym c.in-Ok-None.is ∙ fault in cc))
+    (λ fault. let never : Malformed c.taken-at.result ≡ StreamFault = fault in cc)
+
+pub returns-in-Err-clause-notes : goal.returns-in-Err-clause-notes
+returns-in-Err-clause-notes g c = notes_passed c.in-Err.ensures.notes
