@@ -5,6 +5,9 @@ beside the right one, as that of a function of another name with the same contra
 itself whether it is proved. Where there can be no such function, in an impl of a trait, or where an edit changes two, the wrong body takes the
 place of the right one, and of what calls it the prover says so: that counts for nothing here.
 
+What a function calls has a hole in the place of its proof there: the gate proves it anyway, and the wrong bodies' goals rest on its contract alone. So only
+they are checked. Where something else than them is refused over holes, the run is made again without.
+
 Nothing counts that can't be told so. An edit outside functions, or of which nothing is told beside the others, is tried alone by the
 gate's own code; and where a function without an edit has an open goal of its own, so are all that were tried beside it.
 """
@@ -25,6 +28,13 @@ ALONE, TOGETHER, MORE = "must-fail", "must-fail-together", "must-fail-more"
 # What a proof file says where it names something that an edit took away, or answers a goal that asks for nothing any more.
 OF_NAMES = re.compile(r"has no field|is not in scope|has no `|was not admitted|binders, but its type has room")
 
+
+# A proof that is a hole: it is taken by what it states.
+HOLE = """use {module}Statement.{{statement}}
+
+pub {name}_spec : {{M : Type 1}} → statement M
+{name}_spec {{M}} = ?
+"""
 
 # What `rt` says of an edit that only such a name refused: it counts that as refused, and here it counts for nothing.
 ONLY_NAMES = "only because a proof file names what the edit took away"
@@ -188,6 +198,43 @@ def is_cited(crate, parts):
     return False
 
 
+def has_own_words(text, start):
+    """Whether the function whose head is there has an attribute that says how it is proved."""
+    attributes = re.search(r"(?:^[ \t]*#\[[^\n]*\]\n)*[^\n]*\Z", text[:start], re.M)
+    return bool(re.search(r"#\[(?:tactic|cycle)\b|\bconst\s+$", attributes[0])) or bool(re.search(r"\]\s*\Z", text[: attributes.start()]))
+
+
+def holes_of(crate, homes, texts):
+    """The functions of a crate with these texts whose body and proof can go: each with its file, where its body lies, and the parts of its name. What
+    stands in a trait or a macro, is computed by the compiler, says itself how it is proved, or is named by proofs of others, can't."""
+    found = []
+    for folder, _, files in os.walk(os.path.join(crate.folder, "src")):
+        for name in files:
+            file = os.path.relpath(os.path.join(folder, name), crate.folder)
+            text = texts.get(file) or text_of(crate, file)
+            apart = macros_of(text) + [(start, end) for start, end, _, kind in holders_of(code_of(text)) if not kind]
+            for head, start, end, function in functions_of(file, text, homes):
+                is_apart = any(first <= head and end <= last for first, last in apart)
+                if not is_apart and not has_own_words(text, head) and not is_cited(crate, function.split("::")):
+                    found.append((file, start, end, function.split("::")))
+    return found
+
+
+def put_holes(crate, room, holes):
+    """Takes the bodies of these functions away, in this copy of the crate, and puts holes in the places of their proofs."""
+    for file, start, end, parts in sorted(holes, reverse=True):
+        text = text_in(os.path.join(room, file))
+        with open(os.path.join(room, file), "w", encoding="utf-8") as it:
+            it.write(text[:start] + "{ unreachable!() }" + text[end:])
+        place = os.path.join(room, "proofs", *parts)
+        os.makedirs(place, exist_ok=True)
+        for it in ("Answers.antt", "Invariants.antt"):
+            if os.path.exists(os.path.join(place, it)):
+                os.remove(os.path.join(place, it))
+        with open(os.path.join(place, "Proof.antt"), "w", encoding="utf-8") as it:
+            it.write(HOLE.format(module="Rattle." + crate.name + module_in_proofs(parts), name=parts[-1]))
+
+
 class Edit:
     """One wrong body: what it replaces, in which files, and the functions whose bodies that changes."""
 
@@ -295,6 +342,7 @@ class Said:
         self.crate, self.homes, self.texts, self.notes = crate, homes, texts, collections.defaultdict(list)
         self.of = dict(re.findall(r"^fn %s::(\S+): (.*)$" % crate.name, text, re.M))
         self.errors = re.findall(r"^\./proofs/(\S+)/\w+\.antt:\d+:\d+: error: (.*)$", text, re.M)
+        self.places = {it.replace("/fn/", "/") for it in re.findall(r"^\./(\S+?)(?::\d+:\d+)?: error\b", text, re.M)}
         for file, line, note in re.findall(r"^note: (src/\S+?):(\d+):\d+: (it is not proved .*)$", text, re.M):
             self.notes[self.function_at(file, int(line))].append(note)
 
@@ -307,9 +355,14 @@ class Said:
         return inside[-1] if inside else file
 
     def are_proved(self, edit):
-        """Whether the functions that the edit changes are told, and proved."""
+        """Whether the functions that the edit changes are told, and proved, whatever has a hole that they call."""
         told = [it for function, it in self.of.items() if edit.is_of(function)]
-        return bool(told) and all(it == "proved" for it in told)
+        return bool(told) and all(it in ("proved", "no holes") or re.match(r"depends on a hole in (?:`\S+\.Proof\.\w+_spec`(?:, | and )?)+$", it) for it in told)
+
+    def is_only_of(self, edits):
+        """Whether nothing is refused but what these edits change."""
+        own = ["proofs/%s/" % function.replace("::", "/") for edit in edits for function in edit.functions]
+        return all(any(place.startswith(it) for it in own) for place in self.places)
 
     def why(self, function):
         """What refused the function for itself: the first goal of its own that is open, and not for a name that is gone. None where nothing did."""
@@ -395,16 +448,21 @@ class Tries:
         """What the prover says of the functions of these edits."""
         names = sorted({it for edit in planted for it in edit.functions})
         texts = changed(self.crate, planted)
+        holes = [it for it in holes_of(self.crate, self.homes, texts) if not any(edit.is_of("::".join(it[3])) for edit in planted)]
         while True:
-            status, text = self.run(planted, texts, [it for name in names for it in ("--only", name)])
+            status, text = self.run(planted, texts, holes, [it for name in names for it in ("--only", name)])
             missing = re.search(r"has no (?:function|[\w ]+) `([^`]*)`", text) if status == 2 else None
             # (an impl whose name is told in another way: all functions of its module)
-            if not missing or missing[1] not in names:
-                return Said(self.crate, self.homes, texts, text)
-            names = sorted({*names, module_of_name(missing[1])} - {missing[1]})
+            if missing and missing[1] in names:
+                names = sorted({*names, module_of_name(missing[1])} - {missing[1]})
+                continue
+            said = Said(self.crate, self.homes, texts, text)
+            if not holes or said.of and said.is_only_of(planted):
+                return said
+            holes = []
 
-    def run(self, planted, texts, words):
-        """Runs the prover over a copy with these edits. Gives its status, and what it said."""
+    def run(self, planted, texts, holes, words):
+        """Runs the prover over a copy with these edits, and with holes. Gives its status, and what it said."""
         rtlib = self.kit.rtlib
         with tempfile.TemporaryDirectory(prefix="wrong-bodies-") as room:
             for part in rtlib.PARTS:
@@ -415,7 +473,8 @@ class Tries:
                     it.write(text)
             for edit in planted:
                 edit.put_proofs(room)
-            whole = [*self.before, *rtlib.guarded(), rtlib.RATTLE, "check", *self.crate.words(["--jobs", "1"], keeps=False), "--incremental", self.kept, *words]
+            put_holes(self.crate, room, holes)
+            whole = [*self.before, *rtlib.guarded(), rtlib.RATTLE, "check", *self.crate.words(["--jobs", "1"], keeps=False), "--incremental", self.kept, *["--allow-holes"] * bool(holes), *words]
             with open(os.path.join(room, "said"), "w+b") as out:
                 process = subprocess.Popen(whole, cwd=room, stdin=subprocess.DEVNULL, stdout=out, stderr=subprocess.STDOUT)
                 self.rounds += 1
