@@ -13,6 +13,7 @@ gate's own code; and where a function without an edit has an open goal of its ow
 """
 import collections
 import copy
+import functools
 import importlib.machinery
 import importlib.util
 import os
@@ -187,15 +188,26 @@ def module_in_proofs(parts):
     return ".proofs.%s." % ".".join(parts)
 
 
+@functools.lru_cache
+def named_in_proofs(top):
+    """For each folder of these proofs the names in its files that may be of what the prover makes of a function."""
+    return {
+        folder: set(re.findall(r"\.proofs\.([\w.+]+)\.", "\n".join(text_in(os.path.join(folder, name)) for name in files)))
+        for folder, _, files in os.walk(top)
+    }
+
+
 def is_cited(crate, parts):
     """Whether a proof that is not the function's own names what the prover makes of it, or closures of it have answers of their own."""
-    own = os.path.join(crate.folder, "proofs", *parts)
-    for folder, _, files in os.walk(os.path.join(crate.folder, "proofs")):
+    top = os.path.join(crate.folder, "proofs")
+    own, name = os.path.join(top, *parts), ".".join(parts)
+    for folder, names in named_in_proofs(top).items():
         if folder.endswith(os.path.join("fn", parts[-1])) or os.path.join("fn", parts[-1], "") in folder:
             return True
-        if folder != own and any(module_in_proofs(parts) in text_in(os.path.join(folder, name)) for name in files):
+        if folder != own and any(it == name or it.startswith(name + ".") for it in names):
             return True
     return False
+
 
 
 def has_own_words(text, start):
