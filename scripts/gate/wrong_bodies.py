@@ -210,6 +210,12 @@ def is_cited(crate, parts):
 
 
 
+def calls_itself(crate, parts):
+    """Whether the function has its proof together with itself, or with others that it calls and that call it."""
+    folder = os.path.join(crate.folder, "proofs", *parts[:-1])
+    return os.path.isdir(folder) and any(it.startswith("+") and parts[-1] in it.split("+") for it in os.listdir(folder))
+
+
 def has_own_words(text, start):
     """Whether the function whose head is there has an attribute that says how it is proved."""
     attributes = re.search(r"(?:^[ \t]*#\[[^\n]*\]\n)*[^\n]*\Z", text[:start], re.M)
@@ -218,7 +224,7 @@ def has_own_words(text, start):
 
 def holes_of(crate, homes, texts):
     """The functions of a crate with these texts whose body and proof can go: each with its file, where its body lies, and the parts of its name. What
-    stands in a trait or a macro, is computed by the compiler, says itself how it is proved, or is named by proofs of others, can't."""
+    stands in a trait or a macro, is computed by the compiler, calls itself, says itself how it is proved, or is named by proofs of others, can't."""
     found = []
     for folder, _, files in os.walk(os.path.join(crate.folder, "src")):
         for name in files:
@@ -226,9 +232,10 @@ def holes_of(crate, homes, texts):
             text = texts.get(file) or text_of(crate, file)
             apart = macros_of(text) + [(start, end) for start, end, _, kind in holders_of(code_of(text)) if not kind]
             for head, start, end, function in functions_of(file, text, homes):
-                is_apart = any(first <= head and end <= last for first, last in apart)
-                if not is_apart and not has_own_words(text, head) and not is_cited(crate, function.split("::")):
-                    found.append((file, start, end, function.split("::")))
+                parts = function.split("::")
+                is_apart = any(first <= head and end <= last for first, last in apart) or calls_itself(crate, parts)
+                if not is_apart and not has_own_words(text, head) and not is_cited(crate, parts):
+                    found.append((file, start, end, parts))
     return found
 
 
@@ -435,12 +442,12 @@ class Tries:
                 chosen.append(edit)
         return chosen
 
-    def round(self, planted):
+    def round(self, planted, over_holes=True):
         """One run with all of these. Gives what refused those that it refused, and those to be tried alone; what is neither waits for others."""
-        said = self.checked(planted)
+        said = self.checked(planted, over_holes)
         if not said.of and len(planted) > 1:
             # (with one of them the crate can't be compiled: halves say with which)
-            (found, others), (more, apart) = self.round(planted[::2]), self.round(planted[1::2])
+            (found, others), (more, apart) = self.round(planted[::2], over_holes), self.round(planted[1::2], over_holes)
             return {**found, **more}, others + apart
         why = {it: said.why(it) for it in said.of}
         found = {}
@@ -454,13 +461,19 @@ class Tries:
             return {}, planted
         waits = [it for it in planted if it.name not in found and any(it.is_of(name) and "it calls" in told for name, told in said.of.items())]
         self.passed |= {it.path for it in planted if it.path in self.same and said.are_proved(it)}
-        return found, [it for it in planted if it.name not in found and (it not in waits or not found)]
+        others = [it for it in planted if it.name not in found and (it not in waits or not found)]
+        wrong = [it for it in others if it.path not in self.same]
+        if said.over_holes and wrong:
+            # (over holes nothing is told of a goal whose name the answers miss)
+            more, apart = self.round(wrong, False)
+            return {**found, **more}, apart + [it for it in others if it not in wrong]
+        return found, others
 
-    def checked(self, planted):
+    def checked(self, planted, over_holes):
         """What the prover says of the functions of these edits."""
         names = sorted({it for edit in planted for it in edit.functions})
         texts = changed(self.crate, planted)
-        holes = [it for it in holes_of(self.crate, self.homes, texts) if not any(edit.is_of("::".join(it[3])) for edit in planted)]
+        holes = [it for it in holes_of(self.crate, self.homes, texts) if over_holes and not any(edit.is_of("::".join(it[3])) for edit in planted)]
         while True:
             status, text = self.run(planted, texts, holes, [it for name in names for it in ("--only", name)])
             missing = re.search(r"has no (?:function|[\w ]+) `([^`]*)`", text) if status == 2 else None
@@ -469,6 +482,7 @@ class Tries:
                 names = sorted({*names, module_of_name(missing[1])} - {missing[1]})
                 continue
             said = Said(self.crate, self.homes, texts, text)
+            said.over_holes = bool(holes)
             if not holes or said.of and said.is_only_of(planted):
                 return said
             holes = []
