@@ -5,8 +5,8 @@ beside the right one, as that of a function of another name with the same contra
 itself whether it is proved. Where there can be no such function, in an impl of a trait, or where an edit changes two, the wrong body takes the
 place of the right one, and of what calls it the prover says so: that counts for nothing here.
 
-What a function calls has a hole in the place of its proof there: the gate proves it anyway, and the wrong bodies' goals rest on its contract alone. So only
-they are checked. Where something else than them is refused over holes, the run is made again without.
+What a wrong body calls has no body there, and a hole in the place of its proof: the gate proves it anyway, and the wrong body's goals rest on its contract alone. So
+wrong bodies alone are checked. Where something else is refused beside holes, all are tried again without them; so are those wrong bodies of which nothing is told there.
 
 Nothing counts that can't be told so. An edit outside functions, or of which nothing is told beside the others, is tried alone by the
 gate's own code; and where a function without an edit has an open goal of its own, so are all that were tried beside it.
@@ -28,7 +28,6 @@ ALONE, TOGETHER, MORE = "must-fail", "must-fail-together", "must-fail-more"
 
 # What a proof file says where it names something that an edit took away, or answers a goal that asks for nothing any more.
 OF_NAMES = re.compile(r"has no field|is not in scope|has no `|was not admitted|binders, but its type has room")
-
 
 # A proof that is a hole: it is taken by what it states.
 HOLE = """use {module}Statement.{{statement}}
@@ -209,7 +208,6 @@ def is_cited(crate, parts):
     return False
 
 
-
 def calls_itself(crate, parts):
     """Whether the function has its proof together with itself, or with others that it calls and that call it."""
     folder = os.path.join(crate.folder, "proofs", *parts[:-1])
@@ -357,8 +355,8 @@ def changed(crate, edits):
 class Said:
     """What the prover said of each function, of a copy of the crate with these texts."""
 
-    def __init__(self, crate, homes, texts, text):
-        self.crate, self.homes, self.texts, self.notes = crate, homes, texts, collections.defaultdict(list)
+    def __init__(self, crate, homes, texts, text, over_holes):
+        self.crate, self.homes, self.texts, self.over_holes, self.notes = crate, homes, texts, over_holes, collections.defaultdict(list)
         self.of = dict(re.findall(r"^fn %s::(\S+): (.*)$" % crate.name, text, re.M))
         self.errors = re.findall(r"^\./proofs/(\S+)/\w+\.antt:\d+:\d+: error: (.*)$", text, re.M)
         self.places = {it.replace("/fn/", "/") for it in re.findall(r"^\./(\S+?)(?::\d+:\d+)?: error\b", text, re.M)}
@@ -482,8 +480,7 @@ class Tries:
             if missing and missing[1] in names:
                 names = sorted({*names, module_of_name(missing[1])} - {missing[1]})
                 continue
-            said = Said(self.crate, self.homes, texts, text)
-            said.over_holes = bool(holes)
+            said = Said(self.crate, self.homes, texts, text, bool(holes))
             if not holes or said.of and said.is_only_of(planted):
                 return said
             holes = []
