@@ -300,7 +300,7 @@ class Edit:
         (file,), (function,) = own, self.functions
         parts, text = function.split("::"), text_of(crate, file)
         span = span_of(file, text, function, self.homes)
-        if not span or is_cited(crate, parts):
+        if not span or is_cited(crate, parts) or calls_itself(crate, parts):
             return None
         whole = wrong = text[slice(*span)]
         for _, old, new in (it for it in self.pairs if it[0] == file and not brings_more(*it[1:])):
