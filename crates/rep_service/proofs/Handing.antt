@@ -15,7 +15,7 @@ use Rattle.rep_service.proofs.Lives.{Did, lives_none, lives_both, lives_as, live
 use Rattle.rep_service.proofs.Answered.{answered_whole, answered_as, answered_both, answered_line}
 
 module _ {D : Type 0} (g : Ghosts D) where
-  pub hands_as : (old new : Replica D) (text behind before after : Option (List ℕ)) (r : Result (Unit {0}) Refusal) → NotWrongCluster r → HandsLines g old new text behind before after (Ok tt) → HandsLines g old new text behind before after r
+  abbrev pub hands_as : (old new : Replica D) (text behind before after : Option (List ℕ)) (r : Result (Unit {0}) Refusal) → NotWrongCluster r → HandsLines g old new text behind before after (Ok tt) → HandsLines g old new text behind before after r
   hands_as old new text behind before after r own hands = record {
     lines = hands.lines;
     handed = hands.handed;

@@ -1,5 +1,5 @@
 -- The items of lines.
-use Rattle.std.proofs.Common.{◌≡◌, ℕ, ◌+◌, ◌^◌, Bool, true, false, ◌==◌, ◌||◌, inl, inr, List, [], ◌∷◌, ◌++◌, length, drop, Option, None, Some, Result, Ok, Err, refl, sym, ap, ◌∙◌, arith}
+use Rattle.std.proofs.Common.{◌≡◌, ℕ, ◌+◌, ◌^◌, Bool, true, false, ◌==◌, ◌||◌, inl, inr, List, [], ◌∷◌, ◌++◌, length, drop, Option, None, Some, Result, Ok, Err, refl, sym, ap, subst, ◌∙◌, arith}
 use Rattle.std.specs.Prelude.{nat_lt, if◌then◌else◌, codes}
 use Rattle.rep_types.specs.declared.key.Key.{Key}
 use Rattle.rep_types.specs.declared.item.Item.{Item}
@@ -12,7 +12,7 @@ use Rattle.rep_record.specs.Words.{words, is_blank}
 use Rattle.rep_record.specs.Reading.{number_in, is_next, some_each, key_in, is_long, well_placed, of_kind, order_form, order_outcome}
 use Rattle.rep_requests.specs.Requests.{Requested, Nothing, Published, Stated, Read, Sum, State, Limits, Counters, Donate, Refused, Broken, begins_with_digit, rows_requested, sum_at, sum_requested, transfer_requested, alone, item_requested, requested}
 use Rattle.rep_follow.specs.Taking.{item_at, AreItems, item_awaited, item_onto, items_in}
-use Rattle.rep_service.specs.Commanding.{awaited}
+use Rattle.rep_service.specs.Commanding.{awaited, ComesOf}
 use Rattle.rep_service.specs.Passing.{AreLines}
 
 -- ---- a line is the same item whatever its number is
@@ -109,6 +109,33 @@ module _ (next : ℕ) where
   -- what the node makes of a line is the item that it is
   pub line_item : (n : ℕ) (line : List ℕ) (o : Option Item) → awaited next n (requested n line) ≡ Ok o → item_awaited next (requested 0 line) ≡ o
   line_item n line o is = item_same 0 n line ∙ said_item n (requested n line) o is
+
+  unsaid_by : (b : Bool) (i : Item) (e : Refusal) → (if b then Ok (Some i) else Err (OutOfOrder next)) ≡ Err e → (if b then Some i else None) ≡ None
+  unsaid_by true i e is = absurd (let never : ◌≡◌ {A = Result (Option Item) Refusal} (Ok (Some i)) (Err e) = is in cc)
+  unsaid_by false i e is = refl
+
+  -- what ends the node is no item that it awaits
+  unsaid_item : (n : ℕ) (r : Requested) (e : Refusal) → awaited next n r ≡ Err e → item r ≡ None
+  unsaid_item n Nothing e is = refl
+  unsaid_item n (Published m i) e is = unsaid_by (m == next) i e is
+  unsaid_item n (Stated i) e is = absurd (let never : ◌≡◌ {A = Result (Option Item) Refusal} (Ok (Some i)) (Err e) = is in cc)
+  unsaid_item n (Read keys) e is = refl
+  unsaid_item n (Sum at) e is = refl
+  unsaid_item n State e is = refl
+  unsaid_item n Limits e is = refl
+  unsaid_item n Counters e is = refl
+  unsaid_item n (Donate have out) e is = refl
+  unsaid_item n (Refused f) e is = refl
+  unsaid_item n Broken e is = refl
+
+  comes_unsaid : (n : ℕ) (r : Requested) (wanted : Result (Option Item) Refusal) (f : Refusal) → awaited next n r ≡ wanted → ComesOf wanted (Err f) → item r ≡ None
+  comes_unsaid n r (Ok None) f is comes = said_item n r None is
+  comes_unsaid n r (Ok (Some i)) f is comes = absurd (let never : ◌≡◌ {A = Result (Option Item) Refusal} (Err f) (Ok (Some i)) = comes in cc)
+  comes_unsaid n r (Err e) f is comes = unsaid_item n r e is
+
+  -- nor is a line at which it is refused
+  pub ended_item : (n : ℕ) (line : List ℕ) (r : Requested) (result : Result (Option Item) Refusal) (f : Refusal) → r ≡ requested n line → ComesOf (awaited next n r) result → result ≡ Err f → item_awaited next (requested 0 line) ≡ None
+  ended_item n line r result f says comes is = item_same 0 n line ∙ ap (λ q. item_awaited next q) (sym says) ∙ comes_unsaid n r (awaited next n r) f refl (subst (ComesOf (awaited next n r)) is comes)
 
   numbered_item : (r : Requested) (i : Item) → item_at next r ≡ Some i → item r ≡ Some i
   numbered_item Nothing i is = absurd cc

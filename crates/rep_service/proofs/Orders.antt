@@ -1,12 +1,12 @@
 -- What was delivered of an order, from its first line to its end, and what was written of it.
-use Rattle.std.proofs.Common.{◌≡◌, ◌≢◌, ℕ, ◌+◌, ◌-◌, ◌≤◌, Bool, true, false, List, [], ◌++◌, length, take, drop, Option, Result, Ok, Err, OnOk, refl, sym, ap, subst, ◌∙◌, append-nil, take_all, arith}
+use Rattle.std.proofs.Common.{◌≡◌, ◌≢◌, ℕ, ◌+◌, ◌-◌, ◌<◌, ◌≤◌, Bool, true, false, List, [], ◌++◌, length, take, drop, Option, Result, Ok, Err, OnOk, refl, sym, ap, subst, ◌∙◌, append-nil, take_all, arith}
 use Rattle.std.specs.Io.KnownBytes.{IsAtEnd}
 use Rattle.std.proofs.Math.Seq.{drop-append_seam, take-append_seam}
 use Rattle.std.proofs.lemmas.List.{drop_all}
 use Rattle.rep_types.specs.declared.item.Item.{Item}
 use Rattle.rep_types.specs.declared.reply.Reply.{Reply}
 use Rattle.rep_types.specs.declared.refusal.Refusal.{Refusal}
-use Rattle.rep_types.specs.declared.refusal.Refusal.TheVariants.{StreamFault}
+use Rattle.rep_types.specs.declared.refusal.Refusal.TheVariants.{StreamFault, WrongCluster}
 use Rattle.rep_disk.specs.declared.disk.Disk.{Ghosts}
 use Rattle.rep_replica.specs.Replicas.{Replica, facts_of}
 use Rattle.rep_engine.specs.Engines.{gtid_of}
@@ -24,7 +24,7 @@ use Rattle.rep_service.proofs.Lives.{lives_both}
 use Rattle.rep_service.proofs.Items.{items_both}
 use Rattle.rep_service.proofs.Answered.{on_both, answered_as, answered_both}
 use Rattle.rep_service.proofs.Following.{handed_both}
-use Rattle.rep_service.proofs.Passed.{all_append, from_none, passes_as}
+use Rattle.rep_service.proofs.Passed.{all_append, from_none, passes_as, passed_count}
 
 -- the items behind those that were passed over
 items_behind : (position at next : ℕ) (lines more : List (List ℕ)) → at ≡ position + length (items_in (position + 1) lines) → next ≡ at + 1 → drop (at - position) (items_in (position + 1) (lines ++ more)) ≡ items_in next more
@@ -63,6 +63,7 @@ module _ {D : Type 0} (g : Ghosts D) where
     are_passed = passes.passed.are;
     all_passed = tt;
     from = passes.passed.from;
+    missed = λ old few. passes.passed.missed few;
     differs = passes.passed.differs;
     answers = passes.answers;
   }
@@ -88,6 +89,7 @@ module _ {D : Type 0} (g : Ghosts D) where
         are_passed = passes.passed.are;
         all_passed = subst (λ is. ArePassed (position + 1) is (passed_in passes.said)) (sym (take_all (passed_before g position old) items few)) passes.passed.all;
         from = passes.passed.from;
+        missed = λ old few. passes.passed.missed few;
         differs = passes.passed.differs;
         answers = passes.answers;
       }
@@ -111,6 +113,7 @@ module _ {D : Type 0} (g : Ghosts D) where
           are_passed = f.are_passed;
           all_passed = on_all r f.all_passed;
           from = f.from;
+          missed = λ old few. absurd (let never = f.missed old few in cc);
           differs = λ is. absurd (own is);
           answers = answered_as f.lines f.said r f.answers;
         }
@@ -140,6 +143,7 @@ module _ {D : Type 0} (g : Ghosts D) where
           are_passed = whole;
           all_passed = on_all r whole;
           from = all_append (IsFrom (base_of old) (IsOfLog g old)) passes.said follows.takes.said passes.passed.from (from_none (base_of old) (IsOfLog g old) follows.takes.said follows.takes.none);
+          missed = λ old few. absurd (let told = passed_count (position + 1) items (passed_in passes.said) passes.passed.all in let as_many = ap (λ (l : List Said). length l) same in omega (arith, old, told, as_many, count));
           differs = λ is. absurd (follows.takes.own is);
           answers = answered_both passes.lines follows.lines passes.said follows.takes.said r passes.answers follows.takes.answers;
         }
@@ -174,6 +178,7 @@ module _ {D : Type 0} (g : Ghosts D) where
           are_passed = order.are_passed;
           all_passed = tt;
           from = order.from;
+          missed = λ old few. absurd (let is : ◌≡◌ {A = Result (Unit {0}) Refusal} (Err e) (Err WrongCluster) = order.missed old few in let same : e ≡ WrongCluster = cc in let never : true ≡ false = sym of ∙ ap is_of_line same in cc);
           differs = λ is. absurd (ours is);
           answers = record { most = order.answers.most; are = order.answers.are; all = tt };
         }

@@ -1,5 +1,5 @@
 -- Lines whose items are durable already, one after another.
-use Rattle.std.proofs.Common.{◌≡◌, ◌≢◌, ℕ, ◌+◌, ◌≤◌, List, [], ◌∷◌, ◌++◌, length, take, drop, Option, None, Some, Result, Ok, Err, OnOk, OnErr, IfErr, refl, sym, ap, subst, ◌∙◌, ◌⊎◌, inl, inr, append-nil, append_assoc, length-append, arith}
+use Rattle.std.proofs.Common.{◌≡◌, ◌≢◌, ℕ, ◌+◌, ◌<◌, ◌≤◌, List, [], ◌∷◌, ◌++◌, length, take, drop, Option, None, Some, Result, Ok, Err, OnOk, OnErr, IfErr, refl, sym, ap, subst, ◌∙◌, ◌⊎◌, inl, inr, append-nil, append_assoc, length-append, arith}
 use Rattle.std.specs.Prelude.{Contains}
 use Rattle.std.proofs.lemmas.List.Elements.{Contains-append_right}
 use Rattle.std.specs.List.{AllByRecursion}
@@ -21,7 +21,7 @@ use Rattle.rep_follow.specs.Taking.{items_in}
 use Rattle.rep_service.specs.Lines.{old_line}
 use Rattle.rep_service.specs.Saying.{Said, Receipt, Logged, Old, Rows, Summed, State, Limits, Counters, Donated, Refused, Writes, line_of, receipt_in, receipts_in, passed_at, passed_in, answer_at}
 use Rattle.rep_service.specs.Passing.{TellsDurable}
-use Rattle.rep_service.specs.Living.{Lives, HandsLines, Reaches, IsPassed, ArePassed, IsFrom, Passed, PassesLines, IsOfLog, NotWrongCluster, Differs}
+use Rattle.rep_service.specs.Living.{Lives, Reaches, Misses, IsPassed, ArePassed, IsFrom, Passed, PassesLines, IsOfLog, NotWrongCluster, Differs}
 use Rattle.rep_service.proofs.Saying.{passed_both, still_both, writes_told, on_all, own_ok, own_by, own_fault}
 use Rattle.rep_service.proofs.Telling.{tells_line}
 use Rattle.rep_service.proofs.Ordered.{IsToldAt}
@@ -50,7 +50,7 @@ passed_append seqno (i ∷ items) more (s ∷ said) then one two =
     (one.0, passed_append (seqno + 1) items more said then one.1 (subst (λ k. ArePassed k more then) at two))
 
 -- as much is said as there are items
-passed_count : (seqno : ℕ) (items : List Item) (said : List Said) → ArePassed seqno items said → length said ≡ length items
+pub passed_count : (seqno : ℕ) (items : List Item) (said : List Said) → ArePassed seqno items said → length said ≡ length items
 passed_count seqno [] said none = ap (λ (l : List Said). length l) none
 passed_count seqno (i ∷ items) [] are = absurd are
 passed_count seqno (i ∷ items) (s ∷ said) are = let rest = passed_count (seqno + 1) items said are.1 in omega (arith, rest)
@@ -89,17 +89,27 @@ from_none base Has (Counters level counts ∷ said) none = (tt, from_none base H
 from_none base Has (Donated last ∷ said) none = (tt, from_none base Has said none)
 from_none base Has (Refused e ∷ said) none = (tt, from_none base Has said none)
 
+-- of all of them something was said
+pub none_missed : (first : ℕ) (lines : List (List ℕ)) (said : List Said) (r : Result (Unit {0}) Refusal) → ArePassed (first + 1) (items_in (first + 1) lines) (passed_in said) → length (passed_in said) < length (items_in (first + 1) lines) → r ≡ Err WrongCluster
+none_missed first lines said r all few = let count = passed_count (first + 1) (items_in (first + 1) lines) (passed_in said) all in absurd (omega (arith, few, count))
+
 module _ (base : ℕ) (Has : Judged → Type 0) where
   passed_as : (first : ℕ) (lines : List (List ℕ)) (said : List Said) (r : Result (Unit {0}) Refusal) → NotWrongCluster r → Passed base Has first lines said (Ok tt) → Passed base Has first lines said r
-  passed_as first lines said r own p = record { most = p.most; are = p.are; all = on_all r p.all; from = p.from; differs = λ is. absurd (own is) }
+  passed_as first lines said r own p = record { most = p.most; are = p.are; all = on_all r p.all; from = p.from; missed = none_missed first lines said r p.all; differs = λ is. absurd (own is) }
+
+  passed_of_none : (first : ℕ) (lines : List (List ℕ)) (said : List Said) (e : Refusal) → passed_in said ≡ [] → (length (passed_in said) < length (items_in (first + 1) lines) → ◌≡◌ {A = Result (Unit {0}) Refusal} (Err e) (Err WrongCluster)) → (◌≡◌ {A = Result (Unit {0}) Refusal} (Err e) (Err WrongCluster) → Differs Has first lines said) → Passed base Has first lines said (Err e)
+  passed_of_none first lines said e none missed differs = record { most = 0; are = none; all = tt; from = from_none base Has said none; missed = missed; differs = differs }
 
   -- of none of them
-  passed_not : (first : ℕ) (lines : List (List ℕ)) (said : List Said) (e : Refusal) → passed_in said ≡ [] → (◌≡◌ {A = Result (Unit {0}) Refusal} (Err e) (Err WrongCluster) → Differs Has first lines said) → Passed base Has first lines said (Err e)
-  passed_not first lines said e none differs = record { most = 0; are = none; all = tt; from = from_none base Has said none; differs = differs }
+  passed_not : (first : ℕ) (lines : List (List ℕ)) (said : List Said) (e : Refusal) → passed_in said ≡ [] → (items_in (first + 1) lines ≡ []) ⊎ (◌≡◌ {A = Result (Unit {0}) Refusal} (Err e) (Err WrongCluster)) → (◌≡◌ {A = Result (Unit {0}) Refusal} (Err e) (Err WrongCluster) → Differs Has first lines said) → Passed base Has first lines said (Err e)
+  passed_not first lines said e none (inl items) differs = passed_of_none first lines said e none (λ few. absurd (let count = ap (λ (l : List Item). length l) items in omega (arith, few, count))) differs
+  passed_not first lines said e none (inr is) differs = passed_of_none first lines said e none (λ few. is) differs
 
   -- there is none among them
   passed_none : (first : ℕ) (lines : List (List ℕ)) (said : List Said) (r : Result (Unit {0}) Refusal) → NotWrongCluster r → items_in (first + 1) lines ≡ [] → passed_in said ≡ [] → Passed base Has first lines said r
-  passed_none first lines said r own items none = record { most = 0; are = none; all = on_all r (subst (λ is. ArePassed (first + 1) is (passed_in said)) (sym items) none); from = from_none base Has said none; differs = λ is. absurd (own is) }
+  passed_none first lines said r own items none =
+      let whole : ArePassed (first + 1) (items_in (first + 1) lines) (passed_in said) = subst (λ is. ArePassed (first + 1) is (passed_in said)) (sym items) none in
+      record { most = 0; are = none; all = on_all r whole; from = from_none base Has said none; missed = none_missed first lines said r whole; differs = λ is. absurd (own is) }
 
   -- of one, which is the only one
   passed_one : (first : ℕ) (lines : List (List ℕ)) (said : List Said) (one : Said) (i : Item) (r : Result (Unit {0}) Refusal) → NotWrongCluster r → items_in (first + 1) lines ≡ i ∷ [] → passed_in said ≡ [] → passed_at one ≡ one ∷ [] → IsPassed (first + 1) i one → IsFrom base Has one
@@ -111,6 +121,7 @@ module _ (base : ℕ) (Has : Judged → Type 0) where
         most = 1;
         are = subst (λ is. ArePassed (first + 1) (take 1 is) (passed_in (said ++ one ∷ []))) (sym items) whole;
         all = on_all r (subst (λ is. ArePassed (first + 1) is (passed_in (said ++ one ∷ []))) (sym items) whole);
+        missed = none_missed first lines (said ++ one ∷ []) r (subst (λ is. ArePassed (first + 1) is (passed_in (said ++ one ∷ []))) (sym items) whole);
         from = all_append (IsFrom base Has) said (one ∷ []) (from_none base Has said none) (from, tt);
         differs = λ same. absurd (own same);
       }
@@ -147,6 +158,12 @@ module _ (base : ℕ) (Has : Judged → Type 0) where
         all = on_both r (λ are. subst (λ is. ArePassed (first + 1) is (passed_in (said ++ then))) (sym both)
             (subst (ArePassed (first + 1) (items ++ next)) (sym same) (passed_append (first + 1) items next (passed_in said) (passed_in then) one.all (subst (λ k. ArePassed k (items_in k more) (passed_in then)) behind are)))) two.all;
         from = all_append (IsFrom base Has) said then one.from two.from;
+        missed = λ few.
+            let count = passed_count (first + 1) items (passed_in said) one.all in
+            let told = ap (λ (l : List Said). length l) same ∙ length-append (passed_in said) (passed_in then) in
+            let all = ap (λ (l : List Item). length l) both ∙ length-append items next in
+            let last = ap (λ k. length (items_in k more)) (sym behind) in
+            two.missed (omega (arith, few, count, told, all, last));
         differs = λ is. differs_later first mid lines more said then at one.all (two.differs is);
       }
 
@@ -154,7 +171,7 @@ differs_weaker : (Has Has' : Judged → Type 0) → ((j : Judged) → Has j → 
 differs_weaker Has Has' to first lines said d = record { judged = d.judged; has = to d.judged d.has; item = d.item; next = d.next; seqno_is = d.seqno_is; another = d.another }
 
 pub passed_weaker : (base base' : ℕ) (Has Has' : Judged → Type 0) → base ≤ base' → ((j : Judged) → Has j → Has' j) → (first : ℕ) (lines : List (List ℕ)) (said : List Said) (r : Result (Unit {0}) Refusal) → Passed base Has first lines said r → Passed base' Has' first lines said r
-passed_weaker base base' Has Has' more to first lines said r p = record { most = p.most; are = p.are; all = p.all; from = all_weaker (IsFrom base Has) (IsFrom base' Has') said (from_weaker base base' Has Has' more to) p.from; differs = λ is. differs_weaker Has Has' to first lines said (p.differs is) }
+passed_weaker base base' Has Has' more to first lines said r p = record { most = p.most; are = p.are; all = p.all; from = all_weaker (IsFrom base Has) (IsFrom base' Has') said (from_weaker base base' Has Has' more to) p.from; missed = p.missed; differs = λ is. differs_weaker Has Has' to first lines said (p.differs is) }
 
 -- ---- what is written of one item
 
@@ -200,17 +217,19 @@ module _ {D : Type 0} (g : Ghosts D) where
         }
 
     -- it ended before
-    pub passes_not : (first : ℕ) (old new : Replica D) (text behind : Option (List ℕ)) (position : ℕ) (before after : Option (List ℕ)) (e : Refusal) → HandsLines g old new text behind before after (Err e) → PassesLines g base Has first old new text behind position before after (Err e)
-    passes_not first old new text behind position before after e hands = record {
-      lines = hands.lines;
-      handed = hands.handed;
-      said = hands.said;
-      lives = hands.lives;
-      still = hands.still;
-      position_is = tt;
-      passed = passed_not base Has first hands.lines hands.said e hands.none (λ is. absurd (hands.own is));
-      answers = hands.answers;
-    }
+    pub passes_not : (first : ℕ) (old new : Replica D) (text behind : Option (List ℕ)) (position : ℕ) (before after : Option (List ℕ)) (e : Refusal) → Misses g (first + 1) old new text behind before after e → PassesLines g base Has first old new text behind position before after (Err e)
+    passes_not first old new text behind position before after e misses =
+        let hands = misses.hands in
+        record {
+          lines = hands.lines;
+          handed = hands.handed;
+          said = hands.said;
+          lives = hands.lives;
+          still = hands.still;
+          position_is = tt;
+          passed = passed_not base Has first hands.lines hands.said e hands.none (inl misses.none) (λ is. absurd (hands.own is));
+          answers = hands.answers;
+        }
 
     -- the next item was reached, and nothing said of it
     pub passes_unsaid : (first : ℕ) (left : List ℕ) (rest : Option (List ℕ)) (old new : Replica D) (text behind before after : Option (List ℕ)) (i : Item) (position : ℕ) (j : Judged) → Reaches g (first + 1) old new left rest text behind before after (Some i) → j.seqno ≡ first + 1 → Has j → i ≢ j.item → PassesLines g base Has first old new text behind position before after (Err WrongCluster)
@@ -223,7 +242,7 @@ module _ {D : Type 0} (g : Ghosts D) where
           lives = lives_as g old new [] hands.said before after (Err WrongCluster) hands.lives;
           still = hands.still;
           position_is = tt;
-          passed = passed_not base Has first hands.lines hands.said WrongCluster hands.none (λ same. record {
+          passed = passed_not base Has first hands.lines hands.said WrongCluster hands.none (inr refl) (λ same. record {
             judged = j;
             has = has;
             item = i;

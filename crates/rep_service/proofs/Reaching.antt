@@ -10,14 +10,15 @@ use Rattle.rep_lines.specs.Lines.{HasNoFeed}
 use Rattle.rep_requests.specs.Requests.{Requested, requested}
 use Rattle.rep_replica.specs.Replicas.{Replica, facts_of}
 use Rattle.rep_follow.specs.Joining.{PartsAreJoined}
-use Rattle.rep_follow.specs.Taking.{text_of}
+use Rattle.rep_follow.specs.Taking.{text_of, item_awaited, items_in}
 use Rattle.rep_service.specs.Commanding.{EndsNode, awaited, ComesOf}
 use Rattle.rep_service.specs.Passing.{IsAnswered, IsItem, AreLines, Passes}
-use Rattle.rep_service.specs.Living.{HandsLines, Reaches}
+use Rattle.rep_service.specs.Living.{HandsLines, Reaches, Misses, NotWrongCluster}
 use Rattle.rep_service.proofs.Saying.{own_ok}
 use Rattle.rep_service.proofs.Following.{text_both}
 use Rattle.rep_service.proofs.Lives.{Did}
-use Rattle.rep_service.proofs.Handing.{hands_none, hands_kept, hands_more}
+use Rattle.rep_service.proofs.Handing.{hands_none, hands_kept, hands_more, hands_as}
+use Rattle.rep_service.proofs.Items.{lines_items, items_both, no_item}
 
 -- one more line is answered
 answered_push : (next : ℕ) (lines : List (List ℕ)) (line : List ℕ) → AreLines next lines [] → IsAnswered next line → AreLines next (lines ++ line ∷ []) []
@@ -51,6 +52,22 @@ module _ {D : Type 0} (g : Ghosts D) (parts : PartsAreJoined g) (next : ℕ) whe
         are = item_push next so.hands.lines line i so.are is;
         ended = λ none. absurd cc;
       }
+
+    pub misses_more : (new : Replica D) (after : Option (List ℕ)) (number : ℕ) (line : List ℕ) (request : Requested) (e : Refusal) → NotWrongCluster (Err e) → request ≡ requested number line → item_awaited next (requested 0 line) ≡ None → Consumes mid behind (line ++ 10 ∷ []) → (facts_of g between).ahead ≡ []
+        → Did g request between new written after (Err e) → Misses g next old new text behind before after e
+    misses_more new after number line request e own says other handed none did =
+        let lines = so.hands.lines in
+        let before_it : items_in next lines ≡ [] = lines_items next lines [] so.are in
+        record {
+          hands = hands_more g parts old between new text mid behind before written after number line request (Err e) own says so.hands handed none did;
+          none = items_both next lines (line ∷ []) ∙ ap (λ (is : List Item). is ++ items_in (next + length is) (line ∷ [])) before_it ∙ ap (λ k. items_in k (line ∷ [])) (omega arith) ∙ no_item next line [] other;
+        }
+
+    pub misses_kept : (e : Refusal) → NotWrongCluster (Err e) → Keeps mid behind → Misses g next old between text behind before written e
+    misses_kept e own kept = record { hands = hands_kept g old between text mid behind before written (Err e) own so.hands kept; none = lines_items next so.hands.lines [] so.are }
+
+    pub misses_as : (e : Refusal) → NotWrongCluster (Err e) → Misses g next old between text mid before written e
+    misses_as e own = record { hands = hands_as g old between text mid before written (Err e) own so.hands; none = lines_items next so.hands.lines [] so.are }
 
     pub reaches_end : (left : List ℕ) (rest : Option (List ℕ)) → HasNoFeed left → IsAtEnd rest → Keeps mid behind → Reaches g next old between left rest text behind before written None
     reaches_end left rest none ended kept = record { hands = hands_kept g old between text mid behind before written (Ok tt) own_ok so.hands kept; are = so.are; ended = λ is. (none, ended) }

@@ -1,5 +1,5 @@
 -- What the life of a node was that follows an order: the lines that it was handed, the items that were delivered to it, and what it wrote.
-use Rattle.std.specs.Prelude.{◌≡◌, ◌≢◌, ℕ, ◌+◌, ◌-◌, ◌≤◌, List, [], ◌∷◌, ◌++◌, length, take, drop, Contains, Option, None, Result, Ok, Err, OnOk}
+use Rattle.std.specs.Prelude.{◌≡◌, ◌≢◌, ℕ, ◌+◌, ◌-◌, ◌<◌, ◌≤◌, List, [], ◌∷◌, ◌++◌, length, take, drop, Contains, Option, None, Result, Ok, Err, OnOk}
 use Rattle.std.specs.List.{AllByRecursion}
 use Rattle.std.specs.Io.KnownBytes.{Consumes, IsAtEnd}
 use Rattle.rep_types.specs.declared.item.Item.{Item}
@@ -117,6 +117,11 @@ pub record Reaches {D : Type 0} (g : Ghosts D) (next : ℕ) (old new : Replica D
   pub are : AreLines next hands.lines (items_of found)
   pub ended : found ≡ None → HasNoFeed left × IsAtEnd rest
 
+-- It ended before the next item was reached: none of the lines that were handed out is it.
+pub record Misses {D : Type 0} (g : Ghosts D) (next : ℕ) (old new : Replica D) (text behind before after : Option (List ℕ)) (e : Refusal) : Type 0 where
+  pub hands : HandsLines g old new text behind before after (Err e)
+  pub none : items_in next hands.lines ≡ []
+
 -- What is said of the item with this seqno: that the log has it no more; or its receipt as the log has it, where the log's record is of this very item.
 abbrev pub IsPassed : ℕ → Item → Said → Type 0
 IsPassed seqno i (Old n) = n ≡ seqno
@@ -144,13 +149,14 @@ pub record Differs (Has : Judged → Type 0) (first : ℕ) (lines : List (List �
   pub seqno_is : judged.seqno ≡ (first + 1) + length (passed_in said)
   pub another : item ≢ judged.item
 
--- Items of these lines were passed over, from behind this position on: all of them where it went on, and else a front of them. Where it is refused as another
--- cluster's, the next one differs.
+-- Items of these lines were passed over, from behind this position on: all of them where it went on, and else a front of them. It is refused as another
+-- cluster's where one of them was not passed over, and only where that one differs.
 pub record Passed (base : ℕ) (Has : Judged → Type 0) (first : ℕ) (lines : List (List ℕ)) (said : List Said) (result : Result (Unit {0}) Refusal) : Type 0 where
   pub most : ℕ
   pub are : ArePassed (first + 1) (take most (items_in (first + 1) lines)) (passed_in said)
   pub all : OnOk result (ArePassed (first + 1) (items_in (first + 1) lines) (passed_in said))
   pub from : AllByRecursion (IsFrom base Has) said
+  pub missed : length (passed_in said) < length (items_in (first + 1) lines) → result ≡ Err WrongCluster
   pub differs : result ≡ Err WrongCluster → Differs Has first lines said
 
 -- Lines were handed out whose items were passed over: where it went on, the position rose by one for each of them. The other lines were answered; nothing was
@@ -182,8 +188,8 @@ passed_before g position r = (facts_of g r).durable - position
 
 -- The lines of an order behind this position were handed out. What was delivered are their items behind those that were durable already, in order
 -- and each once: all of them where it ended well, and else a front of them. Of those that were durable it was said in order, of each once, that the log
--- has it no more, or its receipt as the log has it; and the other lines were answered, before what closes the text. It is refused as another cluster's only
--- where the item behind these is another one than the log's.
+-- has it no more, or its receipt as the log has it; and the other lines were answered, before what closes the text. It is refused as another cluster's where
+-- an item of these was handed out and nothing said of it, and only where that is another one than the log's: so one that differs is refused so, and in no other way.
 pub record FollowsOrder {D : Type 0} (g : Ghosts D) (position : ℕ) (old new : Replica D) (text behind : Option (List ℕ)) (before after : Option (List ℕ)) (closing : List Said) (result : Result (Unit {0}) Refusal) : Type 0 where
   pub lines : List (List ℕ)
   pub items : List Item
@@ -197,6 +203,7 @@ pub record FollowsOrder {D : Type 0} (g : Ghosts D) (position : ℕ) (old new : 
   pub are_passed : ArePassed (position + 1) (take passed (items_in (position + 1) lines)) (passed_in said)
   pub all_passed : OnOk result (ArePassed (position + 1) (take (passed_before g position old) (items_in (position + 1) lines)) (passed_in said))
   pub from : AllByRecursion (IsFrom old.engine.checkpoint.base.position (IsOfLog g old)) said
+  pub missed : length (passed_in said) < passed_before g position old → length (passed_in said) < length (items_in (position + 1) lines) → result ≡ Err WrongCluster
   pub differs : result ≡ Err WrongCluster → Differs (IsOfLog g old) position lines said
   pub answers : AreAnswered lines said result
 

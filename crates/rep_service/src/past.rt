@@ -8,7 +8,7 @@ ghost use Rattle.rep_replica.specs.Replicas.{facts_of};
 ghost use Rattle.rep_follow.specs.Following.{NotesEither};
 ghost use Rattle.rep_service.specs.Commanding.{done_of};
 ghost use Rattle.rep_service.specs.Passing.{Passes, PassesOld, PassesRecords};
-ghost use Rattle.rep_service.specs.Living.{HandsLines, Reaches, PassesLines, IsOfLog};
+ghost use Rattle.rep_service.specs.Living.{Misses, Reaches, PassesLines, IsOfLog};
 
 use crate::commands::answer;
 use crate::durable::{answer_durable, write_old};
@@ -41,7 +41,7 @@ fn next_item<D: Disk + CountsSyncs, R: Source, W: Sink, E: Exchange>(
     requires told { (facts_of D.Disk replica.old).ahead ≡ [] }
     requires seqno { position < 2 ^ 64 - 1 }
     // Nothing is delivered.
-    ensures reaches { MatchResult result (Reaches D.Disk (position + 1) replica.old replica.new input.new.feed (R.remaining source.new) (ahead input.old.feed (R.remaining source.old)) (ahead input.new.feed (R.remaining source.new)) (W.contents writer.old) (W.contents writer.new)) (λ e. HandsLines D.Disk replica.old replica.new (ahead input.old.feed (R.remaining source.old)) (ahead input.new.feed (R.remaining source.new)) (W.contents writer.old) (W.contents writer.new) (Err e)) }
+    ensures reaches { MatchResult result (Reaches D.Disk (position + 1) replica.old replica.new input.new.feed (R.remaining source.new) (ahead input.old.feed (R.remaining source.old)) (ahead input.new.feed (R.remaining source.new)) (W.contents writer.old) (W.contents writer.new)) (Misses D.Disk (position + 1) replica.old replica.new (ahead input.old.feed (R.remaining source.old)) (ahead input.new.feed (R.remaining source.new)) (W.contents writer.old) (W.contents writer.new)) }
     ensures ahead { OnOk result ((facts_of D.Disk replica.new).ahead ≡ []) }
     // A stream fault is one of the streams.
     ensures notes { NotesEither (R.failed source.old) (R.failed source.new) (W.failed writer.old) (W.failed writer.new) result }

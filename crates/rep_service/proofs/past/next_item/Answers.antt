@@ -1,15 +1,15 @@
-use Rattle.std.proofs.Common.{◌∙◌, ◌+◌, ap, refl, Ok, Err, Bool, Option}
+use Rattle.std.proofs.Common.{◌∙◌, ◌+◌, ap, refl, None, Ok, Err, Bool, Option}
 use Rattle.rep_types.specs.declared.item.Item.{Item}
 use Rattle.rep_types.specs.declared.refusal.Refusal.TheVariants.{Exhausted}
 use Rattle.rep_streams.proofs.Noted.{noted_ok}
 use Rattle.rep_service.proofs.Noting.{still_done, still_own, by_writer, by_source}
 use Rattle.rep_lines.specs.Feeds.{ahead}
 use Rattle.rep_requests.specs.Requests.{requested, said_of}
-use Rattle.rep_service.proofs.Reaching.{reaching_none, reaching_more, reaches_item, reaches_end, is_item, is_answered}
+use Rattle.rep_service.proofs.Reaching.{reaching_none, reaching_more, reaches_item, reaches_end, misses_more, misses_kept, misses_as, is_item, is_answered}
+use Rattle.rep_service.proofs.Items.{ended_item}
 use Rattle.rep_service.proofs.Saying.{own_by}
 use Rattle.rep_service.proofs.Own.{own_next, own_answer}
 use Rattle.rep_service.proofs.Lives.{did}
-use Rattle.rep_service.proofs.Handing.{hands_kept, hands_more, hands_as}
 use Rattle.rep_service.proofs.past.next_item.Goals as goal
 
 -- ---- the text
@@ -28,7 +28,7 @@ returns-in-Ok-false-clause-reaches g c =
     reaches_end g.D.Disk c.parts_are_joined.ensures (c.args.position + 1) c.args.replica.now c.loop.replica _ _ _ _ _ c.loop.invariant.so _ _ hands.0 hands.1 hands.2
 
 pub returns-in-Err-clause-reaches : goal.returns-in-Err-clause-reaches
-returns-in-Err-clause-reaches g c = hands_kept g.D.Disk c.args.replica.now c.loop.replica _ _ _ _ _ (Err c.in-Err.refusal) (own_by c.in-Err.refusal (own_next c.in-Err.refusal c.in-Err.ensures.refused)) c.loop.invariant.so.hands c.in-Err.ensures.hands.0
+returns-in-Err-clause-reaches g c = misses_kept g.D.Disk c.parts_are_joined.ensures (c.args.position + 1) c.args.replica.now c.loop.replica _ _ _ _ _ c.loop.invariant.so c.in-Err.refusal (own_by c.in-Err.refusal (own_next c.in-Err.refusal c.in-Err.ensures.refused)) c.in-Err.ensures.hands.0
 
 pub returns-in-Ok-Some-clause-reaches : goal.returns-in-Ok-Some-clause-reaches
 returns-in-Ok-Some-clause-reaches g c =
@@ -62,10 +62,12 @@ returns-in-Err-answer-clause-reaches g c =
     let number = c.next_line.new.self.number in
     let request = said_of c.read_request-request.result in
     let done = did g.D.Disk c.parts_are_joined.ensures c.going_is_joined.ensures request c.loop.replica c.answer.new.replica _ _ _ _ (Err c.in-Err-answer.refusal) c.in-Err-answer.ensures.does in
-    hands_more g.D.Disk c.parts_are_joined.ensures c.args.replica.now c.loop.replica c.answer.new.replica _ _ _ _ _ _ number line request (Err c.in-Err-answer.refusal) (own_by c.in-Err-answer.refusal (own_answer (c.args.position + 1) number request c.answer.result c.in-Err-answer.refusal c.answer.ensures.comes c.in-Err-answer.is)) (c.read_request-request.ensures ∙ ap (requested number) c.as_slice.ensures.value) c.loop.invariant.so.hands hands.1 c.loop.invariant.told done
+    let says = c.read_request-request.ensures ∙ ap (requested number) c.as_slice.ensures.value in
+    let other = ended_item (c.args.position + 1) number line request c.answer.result c.in-Err-answer.refusal says c.answer.ensures.comes c.in-Err-answer.is in
+    misses_more g.D.Disk c.parts_are_joined.ensures (c.args.position + 1) c.args.replica.now c.loop.replica _ _ _ _ _ c.loop.invariant.so c.answer.new.replica _ number line request c.in-Err-answer.refusal (own_by c.in-Err-answer.refusal (own_answer (c.args.position + 1) number request c.answer.result c.in-Err-answer.refusal c.answer.ensures.comes c.in-Err-answer.is)) says other hands.1 c.loop.invariant.told done
 
 pub returns-clause-reaches : goal.returns-clause-reaches
-returns-clause-reaches g c = hands_as g.D.Disk c.args.replica.now c.loop.replica _ _ _ _ (Err Exhausted) (λ is. cc) c.loop.invariant.so.hands
+returns-clause-reaches g c = misses_as g.D.Disk c.parts_are_joined.ensures (c.args.position + 1) c.args.replica.now c.loop.replica _ _ None _ _ c.loop.invariant.so Exhausted (λ is. cc)
 
 -- ---- the streams
 
