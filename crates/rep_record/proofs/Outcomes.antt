@@ -13,6 +13,7 @@ use Rattle.rep_types.specs.declared.item.SetWindow.{SetWindow}
 use Rattle.rep_types.specs.declared.refusal.Refusal.{Refusal}
 use Rattle.rep_types.specs.declared.refusal.Refusal.TheVariants.{Malformed, TooManyReads, TooManyWrites, ValueTooLong, BadParams, StreamFault}
 use Rattle.rep_types.specs.Transactions.{Transaction, misplaced}
+use Rattle.rep_types.specs.Items.{as_item}
 use Rattle.rep_types.specs.Settings.{Setting, setting, is_setting, allowed}
 use Rattle.rep_types.specs.Windows.{is_window_size}
 use Rattle.rep_record.specs.Words.{words}
@@ -103,6 +104,16 @@ stated_by_kind number words true e =
     ap (λ v. order_outcome number (cond v (option_map OfSetWindow (change_in (drop 1 words))) (option_map WriteSet (tail_in words)))) e ∙ kind_outcome OfSetWindow number sized (λ c. refl) (change_in (drop 1 words))
 stated_by_kind number words false e =
     ap (λ v. order_outcome number (cond v (option_map OfSetWindow (change_in (drop 1 words))) (option_map WriteSet (tail_in words)))) e ∙ kind_outcome WriteSet number (limited number) (λ w. refl) (tail_in words)
+
+-- ---- a write set as an item
+
+pub as_write_set : (given : Result Transaction Refusal) (w : Transaction) → Ok (WriteSet w) ≡ as_item given → Ok w ≡ given
+as_write_set (Ok v) w is = cc
+as_write_set (Err e) w is = absurd (let never : ◌≡◌ {A = Result Item Refusal} (Ok (WriteSet w)) (Err e) = is in cc)
+
+pub as_refused : (given : Result Transaction Refusal) (e : Refusal) → Err e ≡ as_item given → Err e ≡ given
+as_refused (Ok w) e is = absurd (let never : ◌≡◌ {A = Result Item Refusal} (Err e) (Ok (WriteSet w)) = is in cc)
+as_refused (Err f) e is = cc
 
 -- ---- what is given is what the line says
 

@@ -2,16 +2,18 @@
 
 ghost use Rattle.std.specs.Prelude.{◌≡◌, [], false, IfOk, Err};
 ghost use Rattle.std.specs.Option.{option_map};
-ghost use Rattle.rep_types.specs.Transactions.{Transaction, transaction};
+ghost use Rattle.rep_types.specs.Transactions.{Transaction, transaction, Renews};
+ghost use Rattle.rep_types.specs.Items.{as_item};
 ghost use Rattle.rep_record.specs.Grammar.{IsItemLine};
 ghost use Rattle.rep_record.specs.Reading.{labels_in, keys_in, reads_in, writes_in, tail_in, item_form, outcome, item_outcome, item_line, limited};
 ghost use Rattle.rep_record.specs.Drafts.{Gives, drafted_reads, drafted_writes, drafted, limited_draft};
 
 use crate::few::keep;
 use crate::pieces::{read_key, read_label, read_write};
+use crate::published::no_effect;
 use crate::words::Words;
 use arrayvec::ArrayVec;
-use rep_types::{Key, MAX_READS, MAX_WRITES, Refusal, Write, WriteSet, read_number};
+use rep_types::{Item, Key, MAX_READS, MAX_WRITES, Refusal, Write, WriteSet, read_number};
 use std::marker::Model;
 
 /// What an item's line says, as far as it is kept: of the reads and of the writes, one more than a
@@ -50,9 +52,9 @@ impl Draft {
         }
     }
 
-    /// The write set, or the first limit that it passes, in the line with this number.
-    fn write_set(&self, number: u64) -> Result<WriteSet, Refusal>
-        ensures { result ≡ limited_draft number self.now }
+    /// Puts the write set in the item's place; or says the first limit that it passes, in the line with this number.
+    fn renew(&self, number: u64, item: &mut Item) -> Result<(), Refusal>
+        ensures { Renews (as_item (limited_draft number self.now)) item.old item.new result }
     {
         if self.reads.len() > MAX_READS {
             return Err(Refusal::TooManyReads);
@@ -63,14 +65,17 @@ impl Draft {
         if self.has_long {
             return Err(Refusal::ValueTooLong);
         }
-        WriteSet::new(
+        let outcome = item.renew(
             self.source,
             self.trx,
             self.last_seen,
             self.reads.as_slice(),
             self.writes.as_slice(),
-        )
-        .map_err(|_| Refusal::Malformed { at: number })
+        );
+        match outcome {
+            Ok(()) => Ok(()),
+            Err(_) => Err(Refusal::Malformed { at: number }),
+        }
     }
 }
 
@@ -158,28 +163,40 @@ fn read_draft(line: &[u8], draft: &mut Draft) -> Option<()>
     read_tail_draft(&mut words, draft)
 }
 
-/// The write set of which this was kept, in the line with this number; a line of which nothing was is
+/// Puts the write set of which this was kept in the item's place, in the line with this number; a line of which nothing was is
 /// malformed.
-fn write_set_of(found: Option<()>, draft: &Draft, number: u64) -> Result<WriteSet, Refusal>
-    ensures { result ≡ outcome (limited_draft number) number (option_map (λ _. draft.now) found) }
+fn renew_by(found: Option<()>, draft: &Draft, number: u64, item: &mut Item) -> Result<(), Refusal>
+    ensures { Renews (as_item (outcome (limited_draft number) number (option_map (λ _. draft.now) found))) item.old item.new result }
 {
     if found.is_none() {
         return Err(Refusal::Malformed { at: number });
     }
-    draft.write_set(number)
+    draft.renew(number, item)
 }
 
-/// The write set that the words say, in the line with this number: `last_seen [id source:trx]
+/// Puts the write set that the words say in the item's place, in the line with this number: `last_seen [id source:trx]
 /// [r key key ..] w write write ..`, as in the line of an item.
 ///
 /// Refuses as `read_item_line` does.
 #[tactic(auto, using(crate::proofs::Outcomes::item_kept))]
-pub fn read_tail(mut words: Words, number: u64) -> Result<WriteSet, Refusal>
-    ensures { result ≡ item_outcome number (tail_in words.entry) }
+pub(crate) fn renew_by_tail(mut words: Words, number: u64, item: &mut Item) -> Result<(), Refusal>
+    ensures { Renews (as_item (item_outcome number (tail_in words.entry))) item.old item.new result }
 {
     let mut draft = Draft::new();
     let found = read_tail_draft(&mut words, &mut draft);
-    write_set_of(found, &draft, number)
+    renew_by(found, &draft, number, item)
+}
+
+/// Puts the write set that the line with this number says in the item's place.
+///
+/// Refuses as `read_item_line` does.
+#[tactic(auto, using(crate::proofs::Outcomes::item_kept))]
+pub(crate) fn renew_by_item_line(line: &[u8], number: u64, item: &mut Item) -> Result<(), Refusal>
+    ensures { Renews (as_item (item_line number line.now)) item.old item.new result }
+{
+    let mut draft = Draft::new();
+    let found = read_draft(line, &mut draft);
+    renew_by(found, &draft, number, item)
 }
 
 /// The write set that the line with this number says: `item last_seen [id source:trx]
@@ -199,7 +216,12 @@ pub fn read_item_line(line: &[u8], number: u64) -> Result<WriteSet, Refusal>
     ensures unformed { ((w : Transaction) → IsItemLine line.now w → ⊥) → result ≡ Err (Refusal.Malformed number) }
     ensures exact { result ≡ item_line number line.now }
 {
-    let mut draft = Draft::new();
-    let found = read_draft(line, &mut draft);
-    write_set_of(found, &draft, number)
+    let mut item = no_effect();
+    if let Err(refusal) = renew_by_item_line(line, number, &mut item) {
+        return Err(refusal);
+    }
+    match item {
+        Item::WriteSet(write_set) => Ok(write_set),
+        Item::SetWindow(_) => unreachable!(),
+    }
 }

@@ -2,10 +2,13 @@
 
 ghost use Rattle.std.specs.Prelude.{◌≡◌, ◌≢◌, IfOk, IfErr, Err};
 ghost use Rattle.rep_types.specs.declared.item.Item.{Item};
+ghost use Rattle.rep_types.specs.declared.item.Item.TheVariants.{SetWindow as OfSetWindow};
+ghost use Rattle.rep_types.specs.Transactions.{Renews};
 ghost use Rattle.rep_record.specs.Grammar.{IsOrderLine};
-ghost use Rattle.rep_record.specs.Reading.{sized, change_in, change_outcome, item_in, limited_item, order_outcome, order_line};
+ghost use Rattle.rep_record.specs.Reading.{sized, of_kind, change_in, change_outcome, item_in, limited_item, order_outcome, order_line};
 
-use crate::item_line::{read_item_line, read_labels, read_tail};
+use crate::item_line::{read_labels, renew_by_item_line, renew_by_tail};
+use crate::published::no_effect;
 use crate::words::Words;
 use rep_types::{Item, Refusal, SetWindow, WindowSize, read_number};
 use std::marker::Model;
@@ -70,39 +73,74 @@ fn read_change(words: Words, number: u64) -> Result<SetWindow, Refusal>
     change_of(read_change_draft(words), number)
 }
 
-/// The item of either kind that the words say, in the line with this number.
-#[tactic(auto, using(crate::proofs::Outcomes::stated_by_kind))]
-fn read_by_kind(mut words: Words, number: u64) -> Result<Item, Refusal>
-    ensures { result ≡ order_outcome number (item_in words.entry) }
+/// Puts the change of the window's size that stands behind `window` in the item's place, in the line with this number.
+fn renew_by_change(words: Words, number: u64, item: &mut Item) -> Result<(), Refusal>
+    ensures { Renews (of_kind OfSetWindow (change_outcome number (change_in words.entry))) item.old item.new result }
 {
-    if words.skip(b"window") {
-        return Ok(Item::SetWindow(read_change(words, number)?));
-    }
-    Ok(Item::WriteSet(read_tail(words, number)?))
+    *item = Item::SetWindow(read_change(words, number)?);
+    Ok(())
 }
 
-/// The item that the words say, in the line with this number: `window size [id source:trx]`, or a tail.
+/// Puts the item of either kind that the words say in the item's place, in the line with this number.
+#[tactic(auto, using(crate::proofs::Outcomes::stated_by_kind))]
+fn renew_by_kind(mut words: Words, number: u64, item: &mut Item) -> Result<(), Refusal>
+    ensures { Renews (order_outcome number (item_in words.entry)) item.old item.new result }
+{
+    if words.skip(b"window") {
+        return renew_by_change(words, number, item);
+    }
+    renew_by_tail(words, number, item)
+}
+
+/// Puts the item that the words say, in the line with this number, in the item's place, which so is not moved: `window size
+/// [id source:trx]`, or a tail.
+///
+/// Refuses as `read_order_line` does; then the item stays.
+#[tactic(auto, using(crate::proofs::Outcomes::order_own))]
+pub fn renew_stated(words: Words, number: u64, item: &mut Item) -> Result<(), Refusal>
+    ensures value { Renews (order_outcome number (item_in words.entry)) item.old item.new result }
+    // No item is refused as a stream that has failed.
+    ensures own { IfErr result (λ refusal. refusal ≢ Refusal.StreamFault) }
+{
+    renew_by_kind(words, number, item)
+}
+
+/// The item that the words say, in the line with this number, as `renew_stated` reads it.
 ///
 /// Refuses as `read_order_line` does.
-#[tactic(auto, using(crate::proofs::Outcomes::order_own))]
 pub fn read_stated(words: Words, number: u64) -> Result<Item, Refusal>
     ensures value { result ≡ order_outcome number (item_in words.entry) }
     // No item is refused as a stream that has failed.
     ensures own { IfErr result (λ refusal. refusal ≢ Refusal.StreamFault) }
 {
-    read_by_kind(words, number)
+    let mut item = no_effect();
+    match renew_stated(words, number, &mut item) {
+        Ok(()) => Ok(item),
+        Err(refusal) => Err(refusal),
+    }
 }
 
-/// The item of either kind that the line with this number says.
+/// Puts the item of either kind that the line with this number says in the item's place.
 #[tactic(auto, using(crate::proofs::Outcomes::order_by_kind))]
-fn read_either(line: &[u8], number: u64) -> Result<Item, Refusal>
-    ensures { result ≡ order_line number line.now }
+fn renew_by_either(line: &[u8], number: u64, item: &mut Item) -> Result<(), Refusal>
+    ensures { Renews (order_line number line.now) item.old item.new result }
 {
     let mut words = Words::new(line);
     if words.skip(b"window") {
-        return Ok(Item::SetWindow(read_change(words, number)?));
+        return renew_by_change(words, number, item);
     }
-    Ok(Item::WriteSet(read_item_line(line, number)?))
+    renew_by_item_line(line, number, item)
+}
+
+/// Puts the item that the line with this number says, as `read_order_line` reads it, in the item's place, which so is not moved.
+///
+/// Refuses as that does; then the item stays.
+pub fn renew_order_line(line: &[u8], number: u64, item: &mut Item) -> Result<(), Refusal>
+    ensures value { Renews (order_line number line.now) item.old item.new result }
+    // No line is refused as a stream that has failed.
+    ensures own { IfErr result (λ refusal. refusal ≢ Refusal.StreamFault) }
+{
+    renew_by_either(line, number, item)
 }
 
 /// The item that the line with this number says: `window size [id source:trx]`, a change of the
@@ -122,5 +160,9 @@ pub fn read_order_line(line: &[u8], number: u64) -> Result<Item, Refusal>
     // No line is refused as a stream that has failed.
     ensures own { IfErr result (λ refusal. refusal ≢ Refusal.StreamFault) }
 {
-    read_either(line, number)
+    let mut item = no_effect();
+    match renew_order_line(line, number, &mut item) {
+        Ok(()) => Ok(item),
+        Err(refusal) => Err(refusal),
+    }
 }

@@ -4,7 +4,7 @@ ghost use Rattle.std.specs.Prelude.{◌≡◌, codes};
 ghost use Rattle.rep_types.specs.declared.item.Item.{Item as AnItem};
 ghost use Rattle.rep_record.specs.Published.{no_effect, published, IsPublished, HasNoEffect};
 
-use crate::order_line::read_order_line;
+use crate::order_line::{read_order_line, renew_order_line};
 use crate::text_reader::MAX_LINE;
 use rep_types::{Item, Key, Write, WriteSet};
 
@@ -23,6 +23,26 @@ pub fn no_effect() -> Item
     match WriteSet::new(0, 0, 0, &[], &[write]) {
         Ok(write_set) => Item::WriteSet(write_set),
         Err(_) => unreachable!(),
+    }
+}
+
+/// Puts the item that has no effect in the item's place. (A function of its own: its room is not filled where there is another.)
+fn empty(item: &mut Item)
+    ensures { item.new ≡ no_effect }
+{
+    *item = no_effect();
+}
+
+/// Puts the item that a text of an order is, as `published_item` says, in the item's place, which so is not moved.
+pub fn renew_published(text: &[u8], item: &mut Item)
+    ensures { item.new ≡ published text.now }
+{
+    if text.len() > MAX_LINE {
+        return empty(item);
+    }
+    match renew_order_line(text, 0, item) {
+        Ok(()) => {}
+        Err(_) => empty(item),
     }
 }
 

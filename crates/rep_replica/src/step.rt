@@ -107,7 +107,7 @@ impl<D: Disk> Replica<D> {
     }
 
     /// Takes the item with this seqno.
-    fn deliver(&mut self, seqno: u64, item: Item) -> Result<Verdict, Refusal>
+    fn admit(&mut self, seqno: u64, item: Item) -> Result<Verdict, Refusal>
         requires running { (self.old.stopped ≡ false) × (self.old.engine.halted ≡ None) }
         ensures step { IsStep D.Disk self.old (delivery seqno item) (gave result) self.new }
         ensures judged { IsJudgedBy self.old.certifier.current (delivery seqno item) (gave result) }
@@ -241,6 +241,19 @@ impl<D: Disk> Replica<D> {
         self.engine.read(key, s)
     }
 
+    /// Delivers a copy of the item, as the step of its delivery does: so the item is not moved.
+    pub fn deliver(&mut self, seqno: u64, item: &Item) -> Answer
+        ensures step { IsStep D.Disk self.old (delivery seqno item.now) result self.new }
+        ensures judged { IsJudgedBy self.old.certifier.current (delivery seqno item.now) result }
+        // Where it is stopped, nothing changes.
+        ensures stopped { (self.old.stopped || is_some self.old.engine.halted) ≡ true → (result ≡ Refused Refusal.Stopped) × (self.new ≡ self.old) }
+    {
+        if self.is_stopped() {
+            return Answer::Refused(Refusal::Stopped);
+        }
+        gave(self.admit(seqno, item.copied()))
+    }
+
     /// Does one step, and answers what came of it.
     ///
     /// - `Deliver` gives the verdict on the write set, and `SetWindow`, a change of the window's size, commits. Either is
@@ -280,11 +293,11 @@ impl<D: Disk> Replica<D> {
         match event {
             Event::Deliver(seqno, write_set) => {
                 let item = Item::WriteSet(write_set);
-                gave(self.deliver(seqno, item))
+                gave(self.admit(seqno, item))
             }
             Event::SetWindow(seqno, size, source, trx) => {
                 let change = SetWindow { size, source, trx };
-                gave(self.deliver(seqno, Item::SetWindow(change)))
+                gave(self.admit(seqno, Item::SetWindow(change)))
             }
             Event::Log => self.log(),
             Event::Sync => self.sync(),

@@ -1,23 +1,28 @@
 -- How far the running of a script has come, and how it ends.
-use Rattle.std.proofs.Common.{◌≡◌, ℕ, ◌+◌, true, false, cond, List, [], ◌∷◌, ◌++◌, length, take, Option, None, Some, Result, Ok, Err, IfSome, refl, sym, ap, subst, ◌∙◌, arith, append_assoc, append-nil, inl, inr}
-use Rattle.std.specs.Prelude.{◌⊎◌, IfErr, IsSomeAnd}
+use Rattle.std.proofs.Common.{◌≡◌, ℕ, ◌+◌, ◌^◌, true, false, cond, List, [], ◌∷◌, ◌++◌, length, take, drop, Option, None, Some, Result, Ok, Err, IfSome, refl, sym, ap, subst, ◌∙◌, arith, append_assoc, append-nil, inl, inr}
+use Rattle.std.specs.Prelude.{◌⊎◌, IfErr, IsSomeAnd, codes}
 use Rattle.std.proofs.lemmas.List.{take_all}
 use Rattle.std.proofs.Math.Seq.{take-append_seam}
 use Rattle.rep_types.specs.declared.refusal.Refusal.{Refusal}
 use Rattle.rep_types.specs.declared.refusal.Refusal.TheVariants.{StreamFault, Malformed}
 use Rattle.rep_types.specs.Settings.{Setting}
-use Rattle.rep_types.proofs.Choices.{some_by_each}
+use Rattle.rep_types.proofs.Choices.{some_by_each, renewed, not_renewed}
+use Rattle.rep_types.specs.Transactions.{Renews}
+use Rattle.rep_types.specs.declared.item.Item.{Item}
+use Rattle.rep_steps.specs.declared.answer.Answer.{Answer}
+use Rattle.rep_steps.specs.Events.{delivery}
+use Rattle.rep_replica.specs.Holding.{IsStep}
 use Rattle.rep_disk.specs.declared.disk.Disk.{Ghosts}
 use Rattle.rep_disk.specs.declared.memory.Loss.{Loss}
 use Rattle.rep_disk.specs.History.{History, stable}
 use Rattle.rep_disk.specs.Memory.{Memory}
-use Rattle.rep_record.specs.Words.{is_blank}
+use Rattle.rep_record.specs.Words.{is_blank, words}
 use Rattle.rep_record.specs.Lines.{Unread, ahead, NextLine}
 use Rattle.rep_replica.specs.Replicas.{Replica}
 use Rattle.rep_script.specs.declared.script_line.Command.{Command}
 use Rattle.rep_script.specs.declared.script_line.Command.TheVariants.{Step, State, Limits, Sum, Stop}
-use Rattle.rep_record.specs.Reading.{order_line}
-use Rattle.rep_script.specs.ScriptLines.{script_line}
+use Rattle.rep_record.specs.Reading.{order_line, is_next, next, number_in, outcome}
+use Rattle.rep_script.specs.ScriptLines.{script_line, delivered, delivery_of, whole_in}
 use Rattle.rep_script.specs.Judging.{Reading, reading_of, said_ahead, text_ahead, with_line, content, ReadsParams}
 use Rattle.rep_script.specs.Scripts.{script, script_on_disk, disk_line, unless_stop, IsOpening, EndsBehind, EndsOnDisk, Crashes, OnNewDisk, Stops, EndsAtFault, FailsAtStop, ScriptEnds, RunEnds, Did, Does, DoesOrStops, RunsLine, RunsDiskLine}
 use Rattle.rep_script.proofs.Stepping.{said_end, said_refused, said_step}
@@ -394,3 +399,41 @@ pub unwritten_in_memory : (p : Setting) (start : Option (List ℕ)) (first : Unr
 unwritten_in_memory p None first result refusal is fault = tt
 unwritten_in_memory p (Some text) first result refusal is fault =
     subst (λ e. EndsInMemory (reading_of p (said_ahead script_line first text)) e) (sym (is ∙ ap Err fault)) tt
+
+-- ---- a delivery
+
+module _ {D : Type 0} (g : Ghosts D) (old new : Replica D) where
+  -- the item that came in the place of another one is delivered
+  pub runs_delivery : (given : Result Item Refusal) (was now : Item) (outcome : Result (Unit {0}) Refusal) → Renews given was now outcome → outcome ≡ Ok tt → (seqno : ℕ) (a : Answer) → IsStep g old (delivery seqno now) a new → (result : Result (Unit {0}) Refusal) → IfErr result (λ e. e ≡ StreamFault)
+      → RunsDiskLine g old (Some (delivered seqno given)) result new
+  runs_delivery given was now outcome is ok seqno a step result fault = subst (λ r. RunsDiskLine g old (Some (delivered seqno r)) result new) (renewed given was now outcome is ok) ((a, step), fault)
+
+  -- what a line of a script on a disk does, as that of any script: it is no stop
+  pub runs_on : (said : Result Command Refusal) → RunsDiskLine g old (Some said) (Ok tt) new → RunsLine g old (Some said) (Ok None) new
+  runs_on (Err e) runs = absurd (let never : ◌≡◌ {A = Result (Unit {0}) Refusal} (Ok tt) (Err e) = runs.0 in cc)
+  runs_on (Ok (Step e)) runs = (runs.0, refl)
+  runs_on (Ok State) runs = (runs.0, refl)
+  runs_on (Ok Limits) runs = (runs.0, refl)
+  runs_on (Ok (Sum position)) runs = (runs.0, refl)
+  runs_on (Ok (Stop loss)) runs = absurd runs.0
+
+  pub fails_on : (said : Result Command Refusal) (e : Refusal) → RunsDiskLine g old (Some said) (Err e) new → RunsLine g old (Some said) (Err e) new
+  fails_on (Err f) e runs = (let same : ◌≡◌ {A = Result (Unit {0}) Refusal} (Err e) (Err f) = runs.0 in let one : e ≡ f = cc in ap Err one, runs.1)
+  fails_on (Ok (Step s)) e runs = runs
+  fails_on (Ok State) e runs = runs
+  fails_on (Ok Limits) e runs = runs
+  fails_on (Ok (Sum position)) e runs = runs
+  fails_on (Ok (Stop loss)) e runs = absurd runs.0
+
+-- an item that is refused
+pub fails_delivery : {D : Type 0} (g : Ghosts D) (r : Replica D) (given : Result Item Refusal) (was now : Item) (outcome : Result (Unit {0}) Refusal) (e : Refusal) → Renews given was now outcome → outcome ≡ Err e → (seqno : ℕ) → RunsDiskLine g r (Some (delivered seqno given)) (Err e) r
+fails_delivery g r given was now outcome e is refused seqno = subst (λ said. RunsDiskLine g r (Some (delivered seqno said)) (Err e) r) (not_renewed given was now outcome e is refused) (refl, refl)
+
+-- what a line says whose first word is `deliver`
+pub said_delivery : (number : ℕ) (line : List ℕ) (ws left : List (List ℕ)) → is_blank line ≡ false → ws ≡ words line → is_next (codes "deliver") ws ≡ true → left ≡ drop 1 ws → content script_line number line ≡ Some (delivery_of number (next (number_in (2 ^ 64)) left))
+said_delivery number line ws left some ws_is first left_is =
+    let seqno : List (List ℕ) → Option (ℕ × List (List ℕ)) = next (number_in (2 ^ 64)) in
+    let found : is_next (codes "deliver") (words line) ≡ true = ap (is_next (codes "deliver")) (sym ws_is) ∙ first in
+    let behind : drop 1 (words line) ≡ left = ap (drop 1) (sym ws_is) ∙ sym left_is in
+    ap (λ blank. cond blank None (Some (script_line number line))) some
+    ∙ ap Some (ap (λ b. cond b (delivery_of number (seqno (drop 1 (words line)))) (outcome Ok number (whole_in (words line)))) found ∙ ap (λ l. delivery_of number (seqno l)) behind)

@@ -14,9 +14,11 @@ ghost use Rattle.rep_script.specs.ScriptLines.{script_line};
 use crate::exchange::{Waiting, next_line, send};
 use arrayvec::ArrayVec;
 use rep_cert::{Certifier, follows_from_the_start, follows_on, judges_as_the_order};
-use rep_record::{TextReader, is_blank, read_order_line, read_params_line, write_verdict};
+use rep_record::{
+    TextReader, is_blank, no_effect, read_params_line, renew_order_line, write_verdict,
+};
 use rep_streams::{Sink, Source};
-use rep_types::{Params, Refusal, Window};
+use rep_types::{Item, Params, Refusal, Window};
 use std::alloc::Global;
 
 /// Reads the params line, which is the first line with words; the reader of lines then stands behind it. The line is
@@ -58,11 +60,12 @@ fn first_certifier(alloc: Global, params: Params) -> Result<Certifier, Refusal>
     Certifier::new(alloc, params, 0, window)
 }
 
-/// Judges the item of the line, if the line has words, and answers its verdict line.
+/// Judges the item of the line, if the line has words, and answers its verdict line. The item is read into the place of another one, so that it is not moved.
 fn judge_line<W: Sink>(
     certifier: &mut Certifier,
     line: &[u8],
     number: u64,
+    item: &mut Item,
     writer: &mut W,
 ) -> Result<(), Refusal>
     // Each item had a line, so that a seqno is left.
@@ -78,8 +81,10 @@ fn judge_line<W: Sink>(
     if is_blank(line) {
         return Ok(());
     }
-    let item = read_order_line(line, number)?;
-    let (seqno, verdict) = certifier.admit_item(&item)?;
+    if let Err(refusal) = renew_order_line(line, number, item) {
+        return Err(refusal);
+    }
+    let (seqno, verdict) = certifier.admit_item(item)?;
     write_verdict(writer, seqno, verdict)
 }
 
@@ -98,8 +103,9 @@ fn judge_lines<R: Source, W: Sink>(
     ensures notes { NotesBoth ((waiting.new.failed ≡ true) ⊎ IsTooLong text.old (R.remaining reader.old)) (R.failed reader.old) (R.failed reader.new) (W.failed writer.old) (W.failed writer.new) result }
 {
     let mut line = ArrayVec::new();
+    let mut item = no_effect();
     'lines: while next_line(text, reader, &mut line, writer, waiting)? {
-        judge_line(&mut certifier, &line, text.number(), waiting)?;
+        judge_line(&mut certifier, &line, text.number(), &mut item, waiting)?;
     }
     Ok(())
 }

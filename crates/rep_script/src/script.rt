@@ -1,11 +1,12 @@
 //! Running a script.
 
-ghost use Rattle.std.specs.Prelude.{◌≡◌, ◌≢◌, ◌⊎◌, true, IfSome, IfErr};
+ghost use Rattle.std.specs.Prelude.{◌≡◌, ◌≢◌, ◌⊎◌, ◌^◌, true, Some, Ok, IfSome, IfErr};
 ghost use Rattle.rep_types.specs.Settings.{Setting};
 ghost use Rattle.rep_streams.specs.Streams.{Notes};
 ghost use Rattle.rep_record.specs.Lines.{Unread, ahead, IsTooLong, IsLongText};
 ghost use Rattle.rep_script.specs.Answering.{NotesBoth};
-ghost use Rattle.rep_script.specs.ScriptLines.{script_line};
+ghost use Rattle.rep_script.specs.ScriptLines.{script_line, delivery_of, whole_in};
+ghost use Rattle.rep_record.specs.Reading.{next, number_in, outcome};
 ghost use Rattle.rep_script.specs.Judging.{reading_of, said_ahead, content};
 ghost use Rattle.rep_script.specs.Scripts.{script, script_on_disk, disk_line, Opened, OnNewDisk, Crashes, Stops, ScriptEnds, RunEnds, EndsOnDisk, Does, RunsCommand, RunsLine, RunsDiskLine};
 
@@ -14,16 +15,16 @@ use crate::exchange::{Waiting, next_line, send};
 use crate::judge::read_params;
 use crate::limits::answer_limits;
 use crate::refused::write_refused;
-use crate::script_line::{Command, read_command};
+use crate::script_line::{Command, next_number, read_other};
 use crate::sum::answer_sum;
 use arrayvec::ArrayVec;
 use rep_disk::{Disk, Loss, MemDisk};
 use rep_layout::need;
-use rep_record::{TextReader, is_blank};
+use rep_record::{TextReader, Words, is_blank, no_effect, renew_stated};
 use rep_recover::format_disk;
 use rep_replica::Replica;
 use rep_streams::{Sink, Source};
-use rep_types::{Params, Refusal};
+use rep_types::{Item, Params, Refusal};
 use std::alloc::Global;
 use uuid::Uuid;
 
@@ -109,7 +110,49 @@ fn run_command<D: Disk, W: Sink>(
     Ok(None)
 }
 
-/// Does what the line with this number asks for, and writes what came of it. A stop is handed back.
+/// Delivers the item that the words say behind its seqno, in the line with this number, and writes what came of it. The item is read into the place
+/// of another one, so that it is not moved.
+///
+/// Refuses a line as `read_command` does, and with `StreamFault` a writer that fails.
+fn run_delivery<D: Disk, W: Sink>(
+    replica: &mut Replica<D>,
+    mut words: Words,
+    number: u64,
+    item: &mut Item,
+    writer: &mut W,
+) -> Result<(), Refusal>
+    ensures runs { RunsDiskLine D.Disk replica.old (Some (delivery_of number (next (number_in (2 ^ 64)) words.entry))) result replica.new }
+    ensures notes { Notes (W.failed writer.old) (W.failed writer.new) result }
+{
+    let Some(seqno) = next_number(&mut words) else {
+        return Err(Refusal::Malformed { at: number });
+    };
+    if let Err(refusal) = renew_stated(words, number, item) {
+        return Err(refusal);
+    }
+    let answer = replica.deliver(seqno, item);
+    write_answer(writer, replica, &answer)
+}
+
+/// Does what the words ask for, which are no delivery, in the line with this number, and writes what came of it. A stop is handed back.
+///
+/// Refuses a line as `read_command` does, and with `StreamFault` a writer that fails.
+fn run_other<D: Disk, W: Sink>(
+    alloc: Global,
+    replica: &mut Replica<D>,
+    words: Words,
+    number: u64,
+    writer: &mut W,
+) -> Result<Option<Loss>, Refusal>
+    ensures runs { RunsLine D.Disk replica.old (Some (outcome Ok number (whole_in words.entry))) result replica.new }
+    ensures notes { Notes (W.failed writer.old) (W.failed writer.new) result }
+{
+    let command = read_other(words, number)?;
+    run_command(alloc, replica, command, writer)
+}
+
+/// Does what the line with this number asks for, and writes what came of it. A stop is handed back. Where the line says an item, that is read into the
+/// place of another one.
 ///
 /// Refuses a line as `read_command` does, and with `StreamFault` a writer that fails.
 fn run_line<D: Disk, W: Sink>(
@@ -117,6 +160,7 @@ fn run_line<D: Disk, W: Sink>(
     replica: &mut Replica<D>,
     line: &[u8],
     number: u64,
+    item: &mut Item,
     writer: &mut W,
 ) -> Result<Option<Loss>, Refusal>
     ensures runs { RunsLine D.Disk replica.old (content script_line number line.now) result replica.new }
@@ -125,8 +169,14 @@ fn run_line<D: Disk, W: Sink>(
     if is_blank(line) {
         return Ok(None);
     }
-    let command = read_command(line, number)?;
-    run_command(alloc, replica, command, writer)
+    let mut words = Words::new(line);
+    if words.skip(b"deliver") {
+        return match run_delivery(replica, words, number, item, writer) {
+            Ok(()) => Ok(None),
+            Err(refusal) => Err(refusal),
+        };
+    }
+    run_other(alloc, replica, words, number, writer)
 }
 
 /// Runs the rest of a script at a replica on a new disk in memory. The last answers wait.
@@ -144,8 +194,16 @@ fn run_in_memory<R: Source, W: Sink>(
     ensures notes { NotesBoth ((waiting.new.failed ≡ true) ⊎ IsTooLong text.old (R.remaining reader.old)) (R.failed reader.old) (R.failed reader.new) (W.failed writer.old) (W.failed writer.new) result }
 {
     let mut line = ArrayVec::new();
+    let mut item = no_effect();
     'lines: while next_line(text, reader, &mut line, writer, waiting)? {
-        if let Some(loss) = run_line(alloc, &mut replica, &line, text.number(), waiting)? {
+        if let Some(loss) = run_line(
+            alloc,
+            &mut replica,
+            &line,
+            text.number(),
+            &mut item,
+            waiting,
+        )? {
             replica = stopped_and_opened(alloc, replica, loss)?;
             write_open(waiting, replica.gtid())?;
         }
@@ -207,12 +265,13 @@ fn run_disk_line<D: Disk, W: Sink>(
     replica: &mut Replica<D>,
     line: &[u8],
     number: u64,
+    item: &mut Item,
     writer: &mut W,
 ) -> Result<(), Refusal>
     ensures runs { RunsDiskLine D.Disk replica.old (content disk_line number line.now) result replica.new }
     ensures notes { Notes (W.failed writer.old) (W.failed writer.new) result }
 {
-    match run_line(alloc, replica, line, number, writer)? {
+    match run_line(alloc, replica, line, number, item, writer)? {
         None => Ok(()),
         Some(_) => Err(Refusal::Malformed { at: number }),
     }
@@ -233,8 +292,9 @@ fn run_lines<D: Disk, R: Source, W: Sink>(
     ensures notes { NotesBoth ((waiting.new.failed ≡ true) ⊎ IsTooLong text.old (R.remaining reader.old)) (R.failed reader.old) (R.failed reader.new) (W.failed writer.old) (W.failed writer.new) result }
 {
     let mut line = ArrayVec::new();
+    let mut item = no_effect();
     'lines: while next_line(text, reader, &mut line, writer, waiting)? {
-        run_disk_line(alloc, replica, &line, text.number(), waiting)?;
+        run_disk_line(alloc, replica, &line, text.number(), &mut item, waiting)?;
     }
     Ok(())
 }

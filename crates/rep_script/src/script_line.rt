@@ -1,7 +1,7 @@
 //! The lines of a script.
 
 ghost use Rattle.std.specs.Prelude.{◌≡◌, ◌≢◌, ◌^◌, IfErr};
-ghost use Rattle.rep_record.specs.Reading.{number_in, next};
+ghost use Rattle.rep_record.specs.Reading.{outcome, number_in, next};
 ghost use Rattle.rep_record.specs.Drafts.{Gives};
 ghost use Rattle.rep_script.specs.ScriptLines.{loss_in, flush_in, read_in, sum_in, stop_in, plain_in, whole_in, delivery_of, script_line};
 
@@ -128,6 +128,19 @@ fn read_whole(mut words: Words) -> Option<Command>
     Some(command)
 }
 
+/// The command, but for a delivery, that the words are, in the line with this number.
+///
+/// Refuses with `Malformed`, `at` being the line's number, words that are none.
+pub(crate) fn read_other(words: Words, number: u64) -> Result<Command, Refusal>
+    ensures value { result ≡ outcome Ok number (whole_in words.entry) }
+    ensures own { IfErr result (λ refusal. refusal ≢ Refusal.StreamFault) }
+{
+    match read_whole(words) {
+        Some(command) => Ok(command),
+        None => Err(Refusal::Malformed { at: number }),
+    }
+}
+
 /// The delivery of the item that the words say behind its seqno, in the line with this number.
 fn read_delivery(mut words: Words, number: u64) -> Result<Command, Refusal>
     ensures value { result ≡ delivery_of number (next (number_in (2 ^ 64)) words.entry) }
@@ -155,8 +168,5 @@ pub fn read_command(line: &[u8], number: u64) -> Result<Command, Refusal>
     if words.skip(b"deliver") {
         return read_delivery(words, number);
     }
-    match read_whole(words) {
-        Some(command) => Ok(command),
-        None => Err(Refusal::Malformed { at: number }),
-    }
+    read_other(words, number)
 }

@@ -1,8 +1,9 @@
 -- Facts of tests, options and results that no word of this project stands in. Each stands here once, for all crates above.
-use Rattle.std.proofs.Common.{rules, ◌≡◌, ◌⊎◌, Bool, true, false, Option, None, Some, Result, Ok, Err, IfSome, IsOk, IfOk, OnOk, refl, sym, ap, subst, ◌∙◌, inl, inr, arith}
-use Rattle.std.specs.Prelude.{◌&&◌, ◌||◌, is_some, is_none}
+use Rattle.std.proofs.Common.{◌≡◌, ◌⊎◌, Bool, true, false, Option, None, Some, Result, Ok, Err, IfSome, IsOk, IfOk, OnOk, refl, sym, ap, ◌∙◌, inl, inr}
+use Rattle.std.specs.Prelude.{◌&&◌, ◌||◌, is_some}
 use Rattle.std.specs.Option.{option_or}
 use Rattle.std.specs.Result.{is_err}
+use Rattle.rep_types.specs.Transactions.{Renews}
 
 -- ---- tests
 
@@ -82,3 +83,13 @@ of_no_failure (Err x) e h = absurd (let never : true ≡ false = e in cc)
 pub success_weaker : {T E P Q : Type 0} (result : Result T E) → OnOk result P → (P → Q) → OnOk result Q
 success_weaker (Ok x) h f = f h
 success_weaker (Err e) h f = tt
+
+-- ---- what came in the place of another is what was given
+
+pub renewed : {A E : Type 0} (given : Result A E) (old new : A) (result : Result (Unit {0}) E) → Renews given old new result → result ≡ Ok tt → Ok new ≡ given
+renewed (Ok a) old new result is ok = ap Ok is.1
+renewed {E = E} (Err e) old new result is ok = absurd (let never : ◌≡◌ {A = Result (Unit {0}) E} (Err e) (Ok tt) = sym is.0 ∙ ok in cc)
+
+pub not_renewed : {A E : Type 0} (given : Result A E) (old new : A) (result : Result (Unit {0}) E) (e : E) → Renews given old new result → result ≡ Err e → ◌≡◌ {A = Result A E} (Err e) given
+not_renewed {E = E} (Ok a) old new result e is refused = absurd (let never : ◌≡◌ {A = Result (Unit {0}) E} (Ok tt) (Err e) = sym is.0 ∙ refused in cc)
+not_renewed {E = E} (Err f) old new result e is refused = let same : ◌≡◌ {A = Result (Unit {0}) E} (Err e) (Err f) = sym refused ∙ is.0 in let one : e ≡ f = cc in ap Err one

@@ -1,11 +1,12 @@
 -- The items of an order, and what both kinds have. Write sets and their certification are of Pedone, Guerraoui and Schiper 2003,
 -- changes of the window's size of this project.
-use Rattle.std.specs.Prelude.{◌≡◌, ℕ, Bool, true, false, List, [], All, IsTrue}
+use Rattle.std.specs.Prelude.{◌≡◌, ℕ, Bool, true, false, List, [], Result, Ok, Err, All, IsTrue}
 use Rattle.rep_types.specs.declared.key.Key.{Key}
 use Rattle.rep_types.specs.declared.value.Write.{Write}
 use Rattle.rep_types.specs.declared.item.Item.{Item}
 use Rattle.rep_types.specs.declared.item.Item.TheVariants.{WriteSet, SetWindow}
-use Rattle.rep_types.specs.Transactions.{IsWithinLimits, written, named}
+use Rattle.rep_types.specs.declared.refusal.Refusal.{Refusal}
+use Rattle.rep_types.specs.Transactions.{Transaction, IsWithinLimits, written, named}
 use Rattle.rep_types.specs.Windows.{is_window_size}
 
 -- whether the item is a write set, and no change of the window's size
@@ -17,6 +18,11 @@ is_write_set (SetWindow c) = false
 abbrev pub IsWithin : Item → Type 0
 IsWithin (WriteSet w) = IsWithinLimits w
 IsWithin (SetWindow c) = IsTrue (is_window_size c.size)
+
+-- the write set as an item, unless it is refused
+abbrev pub as_item : Result Transaction Refusal → Result Item Refusal
+as_item (Ok w) = Ok (WriteSet w)
+as_item (Err e) = Err e
 
 -- no item changes the window's size
 abbrev pub AreWriteSets : List Item → Type 0

@@ -62,6 +62,16 @@ abbrev pub in_order : Transaction → Option ℕ → Result Transaction Refusal
 in_order w (Some i) = Err (Malformed i)
 in_order w None = Ok w
 
+-- it, unless it is refused
+abbrev pub unless : {A E : Type 0} → A → Option E → Result A E
+unless a (Some e) = Err e
+unless a None = Ok a
+
+-- This came in the place of what was there; or it was refused, and what was there stays.
+abbrev pub Renews : {A E : Type 0} → Result A E → A → A → Result (Unit {0}) E → Type 0
+Renews (Ok a) old new result = (result ≡ Ok tt) × (new ≡ a)
+Renews (Err e) old new result = (result ≡ Err e) × (new ≡ old)
+
 -- the write set, or the first refusal that applies
 abbrev pub checked : Transaction → Result Transaction Refusal
 checked w =

@@ -1,11 +1,13 @@
 //! The items of an order.
 
 ghost use Rattle.std.specs.Prelude.{◌≡◌, ⊤};
-ghost use Rattle.rep_types.specs.Items.{IsWithin, is_write_set, reads_of, source_of, trx_of, writes_of, written_by};
+ghost use Rattle.rep_types.specs.Items.{IsWithin, as_item, is_write_set, reads_of, source_of, trx_of, writes_of, written_by};
 ghost use Rattle.rep_types.specs.Reaches.{resized};
+ghost use Rattle.rep_types.specs.Transactions.{Renews, checked, transaction};
 
 use crate::key::Key;
 use crate::limits::MAX_WRITES;
+use crate::refusal::Refusal;
 use crate::value::Write;
 use crate::window::WindowSize;
 use crate::write_set::WriteSet;
@@ -115,6 +117,40 @@ impl Item {
             Item::WriteSet(_) => before,
             Item::SetWindow(change) => change.size,
         }
+    }
+
+    /// Puts a write set in the item's place, which so is not moved: what `WriteSet::new` makes of these.
+    ///
+    /// Refuses as that does; then the item stays.
+    pub fn renew(
+        &mut self,
+        source: u64,
+        trx: u64,
+        last_seen: u64,
+        reads: &[Key],
+        writes: &[Write],
+    ) -> Result<(), Refusal>
+        ensures { Renews (as_item (checked (transaction source trx last_seen reads.now writes.now))) self.old self.new result }
+    {
+        match self {
+            Item::WriteSet(write_set) => write_set.renew(source, trx, last_seen, reads, writes),
+            Item::SetWindow(_) => self.set(source, trx, last_seen, reads, writes),
+        }
+    }
+
+    /// Puts a write set in the place of an item of either kind. (A function of its own: its room is not filled where there is one.)
+    fn set(
+        &mut self,
+        source: u64,
+        trx: u64,
+        last_seen: u64,
+        reads: &[Key],
+        writes: &[Write],
+    ) -> Result<(), Refusal>
+        ensures { Renews (as_item (checked (transaction source trx last_seen reads.now writes.now))) self.old self.new result }
+    {
+        *self = Item::WriteSet(WriteSet::new(source, trx, last_seen, reads, writes)?);
+        Ok(())
     }
 
     /// A copy, which takes no memory.

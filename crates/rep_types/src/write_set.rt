@@ -1,9 +1,9 @@
 //! What a transaction hands in when it asks to commit.
 
-ghost use Rattle.std.specs.Prelude.{◌≡◌, ◌+◌, ◌<◌, ◌≤◌, length, map, IfSome, ⊤};
+ghost use Rattle.std.specs.Prelude.{◌≡◌, ◌+◌, ◌<◌, ◌≤◌, ℕ, [], None, length, map, IfSome, ⊤};
 ghost use Rattle.std.specs.List.{AllByRecursion, list_any};
 ghost use Rattle.rep_types.specs.Keys.{disorder, key_eq};
-ghost use Rattle.rep_types.specs.Transactions.{key_of, misplaced, HasShortValue, written};
+ghost use Rattle.rep_types.specs.Transactions.{key_of, misplaced, HasShortValue, IsWithinLimits, written, checked, transaction, unless};
 
 use crate::key::Key;
 use crate::limits::{MAX_READS, MAX_WRITES};
@@ -96,21 +96,49 @@ fn is_written(writes: &[Write], key: Key) -> bool
     writes.iter().any(|write| key.is(write.key))
 }
 
-/// A copy of the writes.
-fn copy_of(writes: &[Write]) -> ArrayVec<Write, MAX_WRITES>
-    requires { length writes.now ≤ MAX_WRITES }
-    ensures same { result.items ≡ writes.now }
+/// Puts copies of the writes where none stands.
+fn put_copies(writes: &[Write], copies: &mut ArrayVec<Write, MAX_WRITES>)
+    requires none { copies.old.items ≡ [] }
+    requires few { length writes.now ≤ MAX_WRITES }
+    ensures same { copies.new.items ≡ writes.now }
     ensures short { AllByRecursion HasShortValue writes.now }
 {
-    let mut copies = ArrayVec::new();
     for write in writes {
         copies.push(write.copied());
     }
-    copies
+}
+
+/// Puts the keys where none stands.
+fn put_keys(keys: &[Key], kept: &mut ArrayVec<Key, MAX_READS>)
+    requires none { kept.old.items ≡ [] }
+    requires few { length keys.now ≤ MAX_READS }
+    ensures { kept.new.items ≡ keys.now }
+{
+    for key in keys {
+        kept.push(*key);
+    }
+}
+
+/// The first limit of a write set that these reads and writes pass.
+fn misfit(reads: &[Key], writes: &[Write]) -> Option<Refusal>
+    ensures value { (source trx last_seen : ℕ) → checked (transaction source trx last_seen reads.now writes.now) ≡ unless (transaction source trx last_seen reads.now writes.now) result }
+    ensures few { result ≡ None → (length reads.now ≤ MAX_READS) × (length writes.now ≤ MAX_WRITES) }
+    ensures fits { result ≡ None → AllByRecursion HasShortValue writes.now → (source trx last_seen : ℕ) → IsWithinLimits (transaction source trx last_seen reads.now writes.now) }
+{
+    if reads.len() > MAX_READS {
+        return Some(Refusal::TooManyReads);
+    }
+    if writes.len() > MAX_WRITES {
+        return Some(Refusal::TooManyWrites);
+    }
+    match first_misplaced(reads, writes) {
+        Some(at) => Some(Refusal::Malformed { at: at as u64 }),
+        None => None,
+    }
 }
 
 impl WriteSet {
-    ghost use Rattle.rep_types.specs.Transactions.{IsWithinLimits, checked, transaction, named};
+    ghost use Rattle.rep_types.specs.Transactions.{IsWithinLimits, checked, transaction, named, Renews};
     ghost use Rattle.rep_types.specs.Order.{touches};
 
     /// The write set of the transaction `trx` of `source`, two labels without effect on a verdict,
@@ -129,38 +157,61 @@ impl WriteSet {
     ) -> Result<WriteSet, Refusal>
         ensures { result ≡ checked (transaction source trx last_seen reads.now writes.now) }
     {
-        let Ok(kept) = ArrayVec::try_from(reads) else {
-            return Err(Refusal::TooManyReads);
-        };
-        if writes.len() > MAX_WRITES {
-            return Err(Refusal::TooManyWrites);
+        if let Some(refusal) = misfit(reads, writes) {
+            return Err(refusal);
         }
-        if let Some(at) = first_misplaced(reads, writes) {
-            return Err(Refusal::Malformed { at: at as u64 });
-        }
-        Ok(WriteSet {
+        let mut made = WriteSet {
             source,
             trx,
             last_seen,
-            reads: kept,
-            writes: copy_of(writes),
-        })
+            reads: ArrayVec::new(),
+            writes: ArrayVec::new(),
+        };
+        put_keys(reads, &mut made.reads);
+        put_copies(writes, &mut made.writes);
+        Ok(made)
+    }
+
+    /// Puts a write set in the place of this one, which so is not moved: what `new` makes of these.
+    ///
+    /// Refuses as `new` does; then this one stays.
+    pub fn renew(
+        &mut self,
+        source: u64,
+        trx: u64,
+        last_seen: u64,
+        reads: &[Key],
+        writes: &[Write],
+    ) -> Result<(), Refusal>
+        ensures { Renews (checked (transaction source trx last_seen reads.now writes.now)) self.old self.new result }
+    {
+        if let Some(refusal) = misfit(reads, writes) {
+            return Err(refusal);
+        }
+        self.source = source;
+        self.trx = trx;
+        self.last_seen = last_seen;
+        self.reads.clear();
+        put_keys(reads, &mut self.reads);
+        self.writes.clear();
+        put_copies(writes, &mut self.writes);
+        Ok(())
     }
 
     /// A copy, which takes no memory.
     pub fn copied(&self) -> WriteSet
         ensures { result ≡ self.now }
     {
-        let Ok(reads) = ArrayVec::try_from(self.reads.as_slice()) else {
-            unreachable!();
-        };
-        WriteSet {
+        let mut copy = WriteSet {
             source: self.source,
             trx: self.trx,
             last_seen: self.last_seen,
-            reads,
-            writes: copy_of(self.writes.as_slice()),
-        }
+            reads: ArrayVec::new(),
+            writes: ArrayVec::new(),
+        };
+        put_keys(self.reads.as_slice(), &mut copy.reads);
+        put_copies(self.writes.as_slice(), &mut copy.writes);
+        copy
     }
 
     /// The label of the node or client that the transaction ran at.
