@@ -10,3 +10,4 @@ pub mod Parts
 pub mod Settled
 pub mod Stops
 pub mod Followers
+pub mod Asked

@@ -1,6 +1,6 @@
 //! The items of an order are taken from the lines that came.
 
-ghost use Rattle.std.specs.Prelude.{◌≡◌, false};
+ghost use Rattle.std.specs.Prelude.{◌≡◌, true, false, None, Some};
 ghost use Rattle.rep_streams.specs.Streams.{Notes};
 ghost use Rattle.rep_requests.specs.Requests.{requested};
 ghost use Rattle.rep_follow.specs.Taking.{item_at, TakesLines};
@@ -10,19 +10,18 @@ use crate::taking::take;
 use arrayvec::ArrayVec;
 use rep_disk::Disk;
 use rep_lines::{Feed, MAX_KEPT};
+use rep_record::no_effect;
 use rep_replica::Replica;
-use rep_requests::{Request, read_request};
+use rep_requests::renew_numbered;
 use rep_streams::Sink;
 use rep_types::{Item, Refusal};
 
-/// The item that the line is, where it has this seqno of the order.
-fn item_of(line: &[u8], seqno: u64) -> Option<Item>
-    ensures { result ≡ item_at seqno (requested 0 line.now) }
+/// Whether the line is the item that has this seqno of the order. If it is, it comes in the item's place.
+fn is_next(line: &[u8], seqno: u64, item: &mut Item) -> bool
+    ensures some { result ≡ true → item_at seqno (requested 0 line.now) ≡ Some item.new }
+    ensures none { result ≡ false → item_at seqno (requested 0 line.now) ≡ None }
 {
-    match read_request(line, 0) {
-        Request::Published(found, item) if found == seqno => Some(item),
-        _ => None,
-    }
+    renew_numbered(line, seqno, item)
 }
 
 /// Takes the items of the lines that came whole, as long as each is the next one of the order, whose seqno is in `next`. Answers `false` where
@@ -41,15 +40,16 @@ pub fn take_lines<D: Disk, W: Sink>(
     ensures notes { Notes (W.failed writer.old) (W.failed writer.new) result }
 {
     counts.limits();
+    let mut item = no_effect();
     'whole: while feed.next_whole(line) {
         let seqno = *next;
-        let Some(item) = item_of(line, seqno) else {
+        if !is_next(line, seqno, &mut item) {
             return Ok(true);
-        };
+        }
         let Some(after) = seqno.checked_add(1) else {
             return Err(Refusal::Exhausted);
         };
-        if let Err(refusal) = take(replica, counts, writer, seqno, item) {
+        if let Err(refusal) = take(replica, counts, writer, seqno, &item) {
             return Err(refusal);
         }
         *next = after;

@@ -19,6 +19,3 @@ pub use following::{End, follow_items};
 pub use laws::{followers_follow_the_order, going_is_joined, parts_are_joined};
 pub use receipts::write_receipts;
 pub use taking::{deliver, take};
-
-#[cfg(test)]
-mod tests;

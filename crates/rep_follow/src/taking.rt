@@ -12,7 +12,6 @@ use crate::blocks::{commit_next, outcome};
 use crate::counts::Counts;
 use rep_disk::Disk;
 use rep_replica::{Replica, runs_are_joined};
-use rep_steps::Event;
 use rep_streams::Sink;
 use rep_types::{Item, MAX_AHEAD, Refusal};
 
@@ -21,15 +20,15 @@ use rep_types::{Item, MAX_AHEAD, Refusal};
 /// Refuses, in this order, with `Stopped`; with `Undefined` where the node belongs to no cluster; with `Exhausted` where no seqno is left; with
 /// `OutOfOrder` where the seqno is not the next one; and with `Backlogged` where 256 items are delivered and not durable. Nothing changes
 /// then.
-pub fn deliver<D: Disk>(replica: &mut Replica<D>, seqno: u64, item: Item) -> Result<(), Refusal>
-    ensures delivers { Delivers D.Disk replica.old replica.new item result }
+pub fn deliver<D: Disk>(replica: &mut Replica<D>, seqno: u64, item: &Item) -> Result<(), Refusal>
+    ensures delivers { Delivers D.Disk replica.old replica.new item.now result }
     // No item is refused as a stream that has failed.
     ensures own { IfErr result (λ e. e ≢ Refusal.StreamFault) }
     // The first refusal that applies is the answer, and where none does, it is taken.
-    ensures exact { MatchResult result (λ _. refusal (facts_of D.Disk replica.old) (delivery seqno item) ≡ None) (λ e. refusal (facts_of D.Disk replica.old) (delivery seqno item) ≡ Some e) }
+    ensures exact { MatchResult result (λ _. refusal (facts_of D.Disk replica.old) (delivery seqno item.now) ≡ None) (λ e. refusal (facts_of D.Disk replica.old) (delivery seqno item.now) ≡ Some e) }
 {
     runs_are_joined::<D>();
-    outcome(replica.step(Event::delivery(seqno, item)))
+    outcome(replica.deliver(seqno, item))
 }
 
 /// Whether as many items are delivered and not durable as may be.
@@ -50,14 +49,14 @@ fn deliver_counted<D: Disk>(
     replica: &mut Replica<D>,
     counts: &mut Counts,
     seqno: u64,
-    item: Item,
+    item: &Item,
 ) -> Result<(), Refusal>
-    ensures goes { (text : Option (List ℕ)) → Goes D.Disk replica.old replica.new (taken_by item result) counts.old counts.new text text result }
+    ensures goes { (text : Option (List ℕ)) → Goes D.Disk replica.old replica.new (taken_by item.now result) counts.old counts.new text text result }
     ensures own { IfErr result (λ e. e ≢ Refusal.StreamFault) }
-    ensures refused { IfErr result (λ e. refusal (facts_of D.Disk replica.new) (delivery seqno item) ≡ Some e) }
+    ensures refused { IfErr result (λ e. refusal (facts_of D.Disk replica.new) (delivery seqno item.now) ≡ Some e) }
 {
     counts.limits();
-    let more = Counts::of_item(&item);
+    let more = Counts::of_item(item);
     match deliver(replica, seqno, item) {
         Ok(()) => {
             counts.rise(&more);
@@ -76,11 +75,11 @@ pub fn take<D: Disk, W: Sink>(
     counts: &mut Counts,
     writer: &mut W,
     seqno: u64,
-    item: Item,
+    item: &Item,
 ) -> Result<(), Refusal>
-    ensures goes { Goes D.Disk replica.old replica.new (taken_by item result) counts.old counts.new (W.contents writer.old) (W.contents writer.new) result }
+    ensures goes { Goes D.Disk replica.old replica.new (taken_by item.now result) counts.old counts.new (W.contents writer.old) (W.contents writer.new) result }
     ensures notes { Notes (W.failed writer.old) (W.failed writer.new) result }
-    ensures refused { IfErr result (IsNotTaken D.Disk replica.new seqno item) }
+    ensures refused { IfErr result (IsNotTaken D.Disk replica.new seqno item.now) }
 {
     if !is_backlogged(replica) {
         return deliver_counted(replica, counts, seqno, item);

@@ -1,5 +1,5 @@
 -- What a line asks for that begins with a digit, and what a line asks for of which the front is left.
-use Rattle.std.proofs.Common.{◌≡◌, ℕ, suc, zero, ◌+◌, ◌-◌, ◌<◌, ◌≤◌, ◌^◌, ◌⊎◌, inl, inr, Bool, true, false, List, [], ◌∷◌, ◌++◌, length, take, drop, Option, None, Some, Result, Ok, Err, refl, sym, ap, ◌∙◌, arith, length-append, subst}
+use Rattle.std.proofs.Common.{◌≡◌, ℕ, ◌+◌, ◌-◌, ◌<◌, ◌≤◌, ◌^◌, ◌⊎◌, inl, inr, Bool, true, false, List, [], ◌∷◌, ◌++◌, length, take, drop, Option, None, Some, Result, Ok, Err, refl, sym, ap, ◌∙◌, arith, subst}
 use Rattle.std.specs.Prelude.{nat_lt, ◌==◌, ◌||◌, codes, if◌then◌else◌}
 use Rattle.std.specs.Fmt.{decimal}
 use Rattle.std.specs.Char.{digit_value}
@@ -11,11 +11,10 @@ use Rattle.rep_types.proofs.Digits.{number_of}
 use Rattle.rep_types.specs.declared.item.Item.{Item}
 use Rattle.rep_types.specs.declared.key.Key.{Key}
 use Rattle.rep_types.specs.declared.refusal.Refusal.{Refusal}
-use Rattle.rep_types.specs.declared.refusal.Refusal.TheVariants.{Malformed}
 use Rattle.rep_record.specs.Words.{words, is_blank, cut}
 use Rattle.rep_record.specs.Reading.{number_in, is_next, some_each, key_in, order_line}
 use Rattle.rep_record.specs.Published.{published}
-use Rattle.rep_requests.specs.Requests.{Requested, Nothing, Published, Stated, Read, State, Limits, Counters, Donate, Refused, Broken, begins_with_digit, seqno_in, published_as, numbered_by, numbered, rows_requested, sum_at, sum_requested, transfer_requested, alone, item_requested, command_in, command, requested}
+use Rattle.rep_requests.specs.Requests.{Requested, Published, Broken, begins_with_digit, seqno_in, published_as, numbered_by, numbered, rows_requested, sum_at, sum_requested, transfer_requested, item_requested, command_in, requested}
 use Rattle.rep_requests.specs.Laws.{IsItemLine}
 use Rattle.rep_requests.proofs.Spaces.{HasNoSpace, cut_at_space, cut_nowhere, IsCut, cut_or_none, front_none, space_behind, space_after, front_at}
 

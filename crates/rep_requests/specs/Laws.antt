@@ -3,7 +3,7 @@ use Rattle.std.specs.Prelude.{◌≡◌, ◌⊎◌, ℕ, ◌<◌, ◌^◌, true,
 use Rattle.std.specs.Fmt.{decimal}
 use Rattle.rep_types.specs.declared.item.Item.{Item}
 use Rattle.rep_record.specs.Published.{published}
-use Rattle.rep_requests.specs.Requests.{Requested, Published, Broken, begins_with_digit, requested}
+use Rattle.rep_requests.specs.Requests.{Published, Broken, begins_with_digit, requested}
 
 -- The line is an item of the order: some text behind a seqno.
 pub record IsItemLine (number : ℕ) (line : List ℕ) : Type 0 where

@@ -1,6 +1,5 @@
 -- What a line asks of a node that follows an order (this project): total over all bytes.
-use Rattle.std.specs.Prelude.{◌≡◌, ℕ, ◌^◌, ◌==◌, Bool, true, false, ◌||◌, nat_le, nat_lt, if◌then◌else◌, ℤ, pos, negsuc, List, [], ◌∷◌, length, take, drop, codes, Option, None, Some, Result, Ok, Err}
-use Rattle.std.specs.Option.{option_map}
+use Rattle.std.specs.Prelude.{ℕ, ◌^◌, ◌==◌, Bool, false, ◌||◌, nat_lt, if◌then◌else◌, ℤ, pos, negsuc, List, [], ◌∷◌, length, take, drop, codes, Option, None, Some, Result, Ok, Err}
 use Rattle.std.specs.Char.{is_digit}
 use Rattle.rep_types.specs.declared.key.Key.{Key}
 use Rattle.rep_types.specs.declared.item.Item.{Item}
@@ -65,6 +64,11 @@ numbered_by (Some parts) = published_as (seqno_in parts.0) parts.1
 -- What a line asks for that begins with a digit: a seqno, one space, and any text.
 abbrev pub numbered : List ℕ → Requested
 numbered line = numbered_by (cut 32 line)
+
+-- the item of these parts
+abbrev pub published_with : Option (ℕ × List ℕ) → Requested
+published_with None = Broken
+published_with (Some parts) = Published parts.0 (published parts.1)
 
 -- ---- a command
 

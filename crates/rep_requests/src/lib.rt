@@ -10,4 +10,4 @@ mod request;
 
 pub use laws::numbers_are_items;
 pub use position::read_order;
-pub use request::{MAX_KEYS, Request, read_request};
+pub use request::{MAX_KEYS, Request, read_request, renew_numbered};

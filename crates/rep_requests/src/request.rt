@@ -1,14 +1,17 @@
 //! What a line asks of a node that follows an order.
 
-ghost use Rattle.std.specs.Prelude.{◌≡◌, ◌^◌, nat_le, nat_lt, false, if◌then◌else◌, length, take, codes};
+ghost use Rattle.std.specs.Prelude.{◌≡◌, ◌≢◌, ◌^◌, ℕ, nat_le, nat_lt, true, false, if◌then◌else◌, length, take, codes};
 ghost use Rattle.std.specs.Option.{option_map};
 ghost use Rattle.rep_record.specs.Words.{words};
 ghost use Rattle.rep_record.specs.Reading.{each, some_each, key_in, order_line};
 ghost use Rattle.rep_types.specs.declared.refusal.Refusal.TheVariants.{Malformed};
-ghost use Rattle.rep_requests.specs.Requests.{Refused as is_refused, said_of, begins_with_digit, seqno_in, numbered, first_keys, rows_requested, sum_requested, transfer_requested, item_requested, command, requested};
+ghost use Rattle.rep_types.specs.declared.item.Item.{Item as AnItem};
+ghost use Rattle.rep_requests.specs.Requests.{Published as is_published, Refused as is_refused, published_with, said_of, begins_with_digit, seqno_in, numbered, first_keys, rows_requested, sum_requested, transfer_requested, item_requested, command, requested};
 
 use arrayvec::ArrayVec;
-use rep_record::{MAX_LINE, Words, cut_at, is_blank, published_item, read_key, read_order_line};
+use rep_record::{
+    MAX_LINE, Words, cut_at, is_blank, published_item, read_key, read_order_line, renew_published,
+};
 use rep_types::{Item, Key, Refusal, read_number};
 
 /// The greatest number of keys of a read.
@@ -64,17 +67,42 @@ fn read_seqno(digits: &[u8]) -> Option<u64>
     read_number(digits)
 }
 
+/// The seqno that the line begins with, and the text behind it.
+fn parts_of<'a>(line: &'a [u8]) -> Option<(u64, &'a [u8])>
+    ensures { numbered line.now ≡ published_with (option_map (λ x. (x.0, x.1.now)) result) }
+{
+    let (digits, text) = cut_at(line, b' ')?;
+    let seqno = read_seqno(digits)?;
+    Some((seqno, text))
+}
+
 /// What a line asks for that begins with a digit.
 fn read_numbered<'a>(line: &'a [u8]) -> Request<'a>
     ensures { said_of result ≡ numbered line.now }
 {
-    let Some((digits, text)) = cut_at(line, b' ') else {
-        return Request::Broken;
-    };
-    match read_seqno(digits) {
-        Some(seqno) => Request::Published(seqno, published_item(text)),
+    match parts_of(line) {
+        Some((seqno, text)) => Request::Published(seqno, published_item(text)),
         None => Request::Broken,
     }
+}
+
+/// Whether the line is the item of an order that others write to which has this seqno, whatever the line's number is. If it is, it comes in the
+/// item's place, which so is not moved.
+pub fn renew_numbered(line: &[u8], seqno: u64, item: &mut Item) -> bool
+    ensures some { result ≡ true → (number : ℕ) → requested number line.now ≡ is_published seqno item.new }
+    ensures none { result ≡ false → (number : ℕ) (i : AnItem) → requested number line.now ≢ is_published seqno i }
+{
+    if !begins_with_digit(line) {
+        return false;
+    }
+    let Some((found, text)) = parts_of(line) else {
+        return false;
+    };
+    if found != seqno {
+        return false;
+    }
+    renew_published(text, item);
+    true
 }
 
 /// The first 16 of the keys that the words are, and whether there are more.

@@ -55,7 +55,7 @@ fn take_stated<D: Disk, W: Sink>(
     let Some(after) = seqno.checked_add(1) else {
         return Err(Refusal::Exhausted);
     };
-    if let Err(refusal) = take(replica, counts, writer, seqno, item) {
+    if let Err(refusal) = take(replica, counts, writer, seqno, &item) {
         return Err(refusal);
     }
     *next = after;

@@ -3,5 +3,5 @@ use Rattle.rep_follow.proofs.taking.deliver.Goals as goal
 
 pub returns : goal.returns
 returns g c =
-    let d = delivered_so g.D.Disk c.runs_are_joined.ensures c.args.replica.now c.step.new.self c.args.seqno c.args.item c.step.result (rw c.delivery.ensures at c.step.ensures.step) c.outcome.result c.outcome.ensures in
+    let d = delivered_so g.D.Disk c.runs_are_joined.ensures c.args.replica.now c.deliver.new.self c.args.seqno c.args.item.now c.deliver.result c.deliver.ensures.step c.outcome.result c.outcome.ensures in
     record { delivers = d.delivers; own = d.own; exact = d.exact }

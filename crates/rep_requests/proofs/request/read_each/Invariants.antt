@@ -1,5 +1,4 @@
 use Rattle.std.proofs.Common.{◌≡◌, ◌≤◌, length, true, false, []}
-use Rattle.std.specs.Option.{option_map}
 use Rattle.rep_record.specs.Reading.{each, key_in}
 use Rattle.rep_requests.proofs.Keys.{keys_from}
 use Rattle.rep_requests.proofs.request.read_each.Given as goal
