@@ -1,5 +1,5 @@
 -- Blocks that stand one after another: moved to another reading, from a later one on, and with one more.
-use Rattle.std.proofs.Common.{◌≡◌, ℕ, zero, suc, ◌+◌, ◌-◌, ◌<◌, ◌≤◌, ◌^◌, List, [], ◌∷◌, ◌++◌, length, take, drop, Option, Some, refl, sym, ap, subst, ◌∙◌, arith}
+use Rattle.std.proofs.Common.{◌≡◌, ℕ, zero, suc, ◌+◌, ◌-◌, ◌<◌, ◌≤◌, ◌^◌, List, [], ◌∷◌, ◌++◌, length, take, drop, Option, Some, refl, sym, ap, subst, ◌∙◌, append_assoc, arith}
 use Rattle.std.specs.List.{AllByRecursion}
 use Rattle.std.proofs.lemmas.List.{take_at}
 use Rattle.std.proofs.lemmas.Option.{same_Some}
@@ -11,7 +11,7 @@ use Rattle.rep_forms.specs.FormLaws.{length_number, part_again, number_is_form}
 use Rattle.rep_record.specs.declared.limits.TheConstants.{MAX_BLOCK}
 use Rattle.rep_record.specs.Records.{IsRecord}
 use Rattle.rep_record.specs.Blocks.{IsBlock, SeqnosFrom, first_seqno, run_bytes, block_bytes}
-use Rattle.rep_log.specs.Tail.{IsBlockFrom, Stand, seqno_after, cell_in}
+use Rattle.rep_log.specs.Tail.{IsBlockFrom, Stand, seqno_after, records_of, cell_in}
 
 -- where blocks stand
 abbrev pub Where : Type 1
@@ -79,12 +79,13 @@ pub record Standing_at (Has : Where) (n seqno k : ℕ) (blocks : List (List Judg
   pub records : List Judged
   pub there : Has (n + k) (block_bytes (n + k) records)
   pub block : IsBlockFrom (n + k) (seqno_after seqno (take k blocks)) records
+  pub split : records_of blocks ≡ records_of (take k blocks) ++ (records ++ records_of (drop (suc k) blocks))
 
 pub standing_at : (Has : Where) (n seqno k : ℕ) (blocks : List (List Judged)) → k < length blocks → Stand Has n seqno blocks → Standing_at Has n seqno k blocks
 standing_at Has n seqno k [] lt h = absurd (omega (arith, lt))
 standing_at Has n seqno zero (records ∷ blocks) lt h =
     let e : n ≡ n + 0 = omega arith in
-    record { records = records; there = subst (λ m. Has m (block_bytes m records)) e h.0; block = subst (λ m. IsBlockFrom m seqno records) e h.1 }
+    record { records = records; there = subst (λ m. Has m (block_bytes m records)) e h.0; block = subst (λ m. IsBlockFrom m seqno records) e h.1; split = refl }
 standing_at Has n seqno (suc k) (records ∷ blocks) lt h =
     let e : n + 1 + k ≡ n + suc k = omega arith in
     let more = standing_at Has (n + 1) (seqno + length records) k blocks (omega (arith, lt)) h.2 in
@@ -92,6 +93,7 @@ standing_at Has n seqno (suc k) (records ∷ blocks) lt h =
       records = more.records;
       there = subst (λ m. Has m (block_bytes m more.records)) e more.there;
       block = subst (λ m. IsBlockFrom m (seqno_after (seqno + length records) (take k blocks)) more.records) e more.block;
+      split = ap (λ xs. records ++ xs) more.split ∙ sym (append_assoc records (records_of (take k blocks)) (more.records ++ records_of (drop (suc k) blocks)));
     }
 
 -- ---- their numbers and seqnos

@@ -1,19 +1,21 @@
 -- A scan of a device: what was read of it is what its bytes show.
-use Rattle.std.proofs.Common.{◌≡◌, ℕ, ◌+◌, ◌<◌, ◌≤◌, List, length, Option, Ok, refl, sym, subst, ◌∙◌, arith}
+use Rattle.std.proofs.Common.{◌≡◌, ℕ, ◌+◌, ◌<◌, ◌≤◌, List, [], ◌∷◌, ◌++◌, length, Option, Ok, refl, sym, ap, subst, ◌∙◌, append_assoc, arith}
 use Rattle.std.proofs.lemmas.Bool.{false≢true}
 use Rattle.rep_types.specs.declared.judged.Judged.{Judged}
 use Rattle.rep_types.specs.declared.limits.TheConstants.{MAX_SEQNO}
+use Rattle.rep_record.specs.declared.replays.Replays.{Ghosts as Given}
 use Rattle.rep_record.specs.Blocks.{BlocksAreTold}
+use Rattle.rep_record.specs.Replaying.{Replayed, Rejected}
 use Rattle.rep_disk.specs.declared.disk.Disk.{Ghosts}
 use Rattle.rep_disk.specs.History.{History, seen}
 use Rattle.rep_disk.specs.Devices.{Calls}
 use Rattle.rep_layout.specs.declared.place.Layout.{Layout}
 use Rattle.rep_layout.specs.Places.{log_of, TurnsAreTaken}
 use Rattle.rep_cells.specs.Readings.{reading_of}
-use Rattle.rep_log.specs.Tail.{IsOfForm}
+use Rattle.rep_log.specs.Tail.{records_of, IsLog}
 use Rattle.rep_log.specs.Standing.{Standing}
 use Rattle.rep_log.specs.Scanning.{Found, HasCells, Visits, IsNoCell, Finds, rests_as}
-use Rattle.rep_log.proofs.Scanned.{Progress, goes_on, no_log, finds}
+use Rattle.rep_log.proofs.Scanned.{Progress, HasStopped, goes_on, no_log, finds}
 
 -- ---- calls that succeeded
 
@@ -50,25 +52,47 @@ of_cell {layout} {l} {now} {h} {start} {number} {k} {scan} P same holds =
 
 -- a scan that read a cell goes on
 pub read_goes_on :
-    TurnsAreTaken → (layout l : Layout) (now h : History) (first start number k : ℕ) (old new : Found) → k < l.cells → l.cells ≤ length old.stands → IsSame layout l now h start number k old
-    → Progress (reading_of l (seen h)) l first k old → Visits layout number (reading_of layout (seen now) (log_of layout number)) old new → Progress (reading_of l (seen h)) l first (k + 1) new
-read_goes_on turns layout l now h first start number k old new lt long same at visits =
-    goes_on turns (reading_of l (seen h)) l first k (reading_of l (seen h) (log_of l (old.from + k))) old new lt long refl at (of_cell (λ m n cell. Visits m n cell old new) same visits)
+    TurnsAreTaken → (layout l : Layout) (now h : History) (first start number k : ℕ) (old new : Found) (items records : List Judged) → k < l.cells → l.cells ≤ length old.stands → IsSame layout l now h start number k old
+    → Progress (reading_of l (seen h)) l first k old items → Visits layout number (reading_of layout (seen now) (log_of layout number)) old new records → Progress (reading_of l (seen h)) l first (k + 1) new (items ++ records)
+read_goes_on turns layout l now h first start number k old new items records lt long same at visits =
+    goes_on turns (reading_of l (seen h)) l first k (reading_of l (seen h) (log_of l (old.from + k))) old new items records lt long refl at (of_cell (λ m n cell. Visits m n cell old new records) same visits)
 
--- a cell that is of no log leaves none
+-- a cell that is of no log leaves none, but for records that stop the scan
 pub read_no_log :
-    TurnsAreTaken → BlocksAreTold → (layout l : Layout) (now h : History) (first start number k : ℕ) (scan : Found) → k < l.cells → IsSame layout l now h start number k scan
-    → Progress (reading_of l (seen h)) l first k scan → IsNoCell layout number (reading_of layout (seen now) (log_of layout number)) scan → IsOfForm (reading_of l (seen h)) l start first → ⊥
-read_no_log turns told layout l now h first start number k scan lt same at bad form =
-    no_log turns told (reading_of l (seen h)) l first k (reading_of l (seen h) (log_of l (scan.from + k))) scan lt refl at (of_cell (λ m n cell. IsNoCell m n cell scan) same bad)
-    (subst (λ n. IsOfForm (reading_of l (seen h)) l n first) (sym same.from_is) form)
+    TurnsAreTaken → BlocksAreTold → (Stops : List Judged → Type 0) (layout l : Layout) (now h : History) (first start number k : ℕ) (scan : Found) (items : List Judged) → k < l.cells → IsSame layout l now h start number k scan
+    → Progress (reading_of l (seen h)) l first k scan items → IsNoCell Stops layout number (reading_of layout (seen now) (log_of layout number)) scan
+    → (blocks : List (List Judged)) → IsLog (reading_of l (seen h)) l start first blocks → HasStopped Stops items (records_of blocks)
+read_no_log turns told Stops layout l now h first start number k scan items lt same at bad blocks is =
+    no_log turns told Stops (reading_of l (seen h)) l first k (reading_of l (seen h) (log_of l (scan.from + k))) scan items lt refl at (of_cell (λ m n cell. IsNoCell Stops m n cell scan) same bad) blocks
+    (subst (λ n. IsLog (reading_of l (seen h)) l n first blocks) (sym same.from_is) is)
 
 -- what a scan found of all cells
 pub read_all :
-    TurnsAreTaken → BlocksAreTold → (layout l : Layout) (h : History) (first start k : ℕ) (scan : Found) (log : Standing) (items : List Judged) → HasCells l → layout ≡ l → k ≡ l.cells → l.cells ≤ length scan.stands
-    → start < first → first ≤ MAX_SEQNO + 1 → scan.from ≡ start → log ≡ rests_as l scan → items ≡ scan.items → Progress (reading_of l (seen h)) l first k scan → Finds layout (seen h) start first log items
-read_all turns told layout l h first start k scan log items cells layout_is lap long starts limit from log_is items_are at =
+    TurnsAreTaken → BlocksAreTold → (layout l : Layout) (h : History) (first start k : ℕ) (scan : Found) (items : List Judged) (log : Standing) → HasCells l → layout ≡ l → k ≡ l.cells → l.cells ≤ length scan.stands
+    → start < first → first ≤ MAX_SEQNO + 1 → scan.from ≡ start → log ≡ rests_as l scan → Progress (reading_of l (seen h)) l first k scan items → Finds layout (seen h) start first log items
+read_all turns told layout l h first start k scan items log cells layout_is lap long starts limit from log_is at =
     subst (λ (m : Layout). Finds m (seen h) start first log items) (sym layout_is)
-    (subst (λ xs. Finds l (seen h) start first log xs) (sym items_are)
-    (subst (λ n. Finds l (seen h) n first log scan.items) from
-    (finds turns told l (seen h) first scan log cells.some long (omega (arith, from, starts)) limit (subst (λ n. Progress (reading_of l (seen h)) l first n scan) lap at) log_is)))
+    (subst (λ n. Finds l (seen h) n first log items) from
+    (finds turns told l (seen h) first scan items log cells.some long (omega (arith, from, starts)) limit (subst (λ n. Progress (reading_of l (seen h)) l first n scan items) lap at) log_is))
+
+-- ---- what was given on
+
+-- records behind others
+pub replayed_more : {S : Type 0} (g : Given S) (s t u : S) (xs ys : List Judged) → Replayed g s xs t → Replayed g t ys u → Replayed g s (xs ++ ys) u
+replayed_more g s t u [] ys h more = subst (λ v. Replayed g v ys u) (sym h) more
+replayed_more g s t u (x ∷ xs) ys h more = (h.0, h.1, replayed_more g h.0 t u xs ys h.2 more)
+
+-- what is not taken behind some of them is not taken of all
+pub rejected_on : {S : Type 0} (g : Given S) (s t : S) (items all : List Judged) → Replayed g s items t → HasStopped (Rejected g t) items all → Rejected g s all
+rejected_on g s t items all h stopped =
+    let r = stopped.stops in
+    record {
+      before = items ++ r.before;
+      one = r.one;
+      behind = r.behind ++ stopped.behind;
+      split = stopped.split ∙ ap (λ xs. items ++ (xs ++ stopped.behind)) r.split ∙ ap (λ xs. items ++ xs) (append_assoc r.before (r.one ∷ r.behind) stopped.behind)
+          ∙ sym (append_assoc items r.before (r.one ∷ (r.behind ++ stopped.behind)));
+      state = r.state;
+      replayed = replayed_more g s t r.state items r.before h r.replayed;
+      why = r.why;
+    }

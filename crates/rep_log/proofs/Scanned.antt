@@ -1,12 +1,12 @@
 -- How far a scan has come in a reading, and what it finds in the end.
-use Rattle.std.proofs.Common.{◌≡◌, ◌≢◌, ℕ, suc, ◌+◌, ◌-◌, ◌*◌, ◌/◌, ◌%◌, ◌<◌, ◌≤◌, ◌⊎◌, Bool, true, false, is_some, List, [], ◌∷◌, ◌++◌, length, take, get_or, Option, Some, None, refl, sym, ap, subst, ◌∙◌, append_assoc, append-nil, arith, inl, inr, length-append, get_or-set_same, get_or-set_other, div-add-mod', suc-mul}
+use Rattle.std.proofs.Common.{◌≡◌, ◌≢◌, ℕ, suc, ◌+◌, ◌-◌, ◌*◌, ◌/◌, ◌%◌, ◌<◌, ◌≤◌, ◌⊎◌, Bool, true, false, is_some, List, [], ◌∷◌, ◌++◌, length, take, drop, get_or, Option, Some, None, refl, sym, ap, subst, ◌∙◌, append_assoc, append-nil, arith, inl, inr, length-append, get_or-set_same, get_or-set_other, div-add-mod', suc-mul}
 use Rattle.std.specs.Prelude.{slice_set}
 use Rattle.std.proofs.lemmas.Bool.{cases_lt}
 use Rattle.std.proofs.lemmas.Nat.{mod_below, mod-mul-add}
 use Rattle.std.proofs.lemmas.Option.{same_Some}
 use Rattle.rep_types.specs.declared.judged.Judged.{Judged}
 use Rattle.rep_types.specs.declared.limits.TheConstants.{MAX_SEQNO}
-use Rattle.rep_record.specs.Blocks.{block_bytes, BlocksAreTold}
+use Rattle.rep_record.specs.Blocks.{SeqnosFrom, block_bytes, BlocksAreTold}
 use Rattle.rep_disk.specs.Bytes.{Untouched}
 use Rattle.rep_disk.specs.History.{History, failed}
 use Rattle.rep_layout.specs.declared.place.Layout.{Layout}
@@ -17,7 +17,7 @@ use Rattle.rep_layout.specs.Places.{body_len, gate_len, offset_of, gate_of, log_
 use Rattle.rep_cells.specs.Readings.{Reading, reading_of}
 use Rattle.rep_cells.specs.Known.{IsReadable, found_as, found}
 use Rattle.rep_log.specs.declared.phase.Phase.TheVariants.{Resting}
-use Rattle.rep_log.specs.Tail.{IsBlockFrom, Stand, Shows, seqno_after, records_of, cell_in, IsOld, IsLog, IsOfForm}
+use Rattle.rep_log.specs.Tail.{IsBlockFrom, Stand, Shows, seqno_after, records_of, cell_in, IsOld, IsLog}
 use Rattle.rep_log.specs.Standing.{Standing, AtRest, StandsOpen}
 use Rattle.rep_log.specs.Scanning.{Found, Visits, IsNoCell, Finds}
 use Rattle.rep_log.proofs.Blocks.{cell_is, stand_moved, stand_more, standing_at, seqno_more}
@@ -71,11 +71,11 @@ all_readable l h place none =
 abbrev pub EndsAt : Reading → Layout → ℕ → Type 0
 EndsAt r l n = (body : List ℕ) → Shows r l n body → cell_in body ≡ n → ⊥
 
--- Behind the first k cells: these blocks were taken, all cells so far, or else up to one that doesn't hold the next number; of
+-- Behind the first k cells: these blocks were taken, of these items, all cells so far, or else up to one that doesn't hold the next number; of
 -- each open cell so far the number belongs there and is below the next one; and which of them stand open.
-pub record Progress (r : Reading) (l : Layout) (first k : ℕ) (scan : Found) : Type 0 where
+pub record Progress (r : Reading) (l : Layout) (first k : ℕ) (scan : Found) (items : List Judged) : Type 0 where
   pub blocks : List (List Judged)
-  pub items_are : scan.items ≡ records_of blocks
+  pub items_are : items ≡ records_of blocks
   pub stand : Stand (Shows r l) scan.from first blocks
   pub next_is : scan.next ≡ scan.from + length blocks
   pub seqno_is : scan.seqno ≡ seqno_after first blocks
@@ -84,10 +84,10 @@ pub record Progress (r : Reading) (l : Layout) (first k : ℕ) (scan : Found) : 
   pub noted : (j : ℕ) → j < k → get_or scan.stands ((scan.from + j) % l.cells) false ≡ is_some (r (log_of l (scan.from + j)))
 
 -- at the start
-pub nothing_yet : (r : Reading) (l : Layout) (first : ℕ) (scan : Found) → scan.items ≡ [] → scan.next ≡ scan.from → scan.seqno ≡ first → Progress r l first 0 scan
-nothing_yet r l first scan items next seqno = record {
+pub nothing_yet : (r : Reading) (l : Layout) (first : ℕ) (scan : Found) → scan.next ≡ scan.from → scan.seqno ≡ first → Progress r l first 0 scan []
+nothing_yet r l first scan next seqno = record {
   blocks = [];
-  items_are = items;
+  items_are = refl;
   stand = tt;
   next_is = omega (arith, next);
   seqno_is = seqno;
@@ -117,23 +117,24 @@ noted_more turns r l from k stands cell lt long there before j le = elim (cases_
 
 -- a visit goes on
 pub goes_on :
-    TurnsAreTaken → (r : Reading) (l : Layout) (first k : ℕ) (cell : Option (List ℕ)) (old new : Found) → k < l.cells → l.cells ≤ length old.stands → cell ≡ r (log_of l (old.from + k))
-    → Progress r l first k old → Visits l (old.from + k) cell old new → Progress r l first (k + 1) new
-goes_on turns r l first k cell old new lt long there at (inl takes) =
+    TurnsAreTaken → (r : Reading) (l : Layout) (first k : ℕ) (cell : Option (List ℕ)) (old new : Found) (items records : List Judged) → k < l.cells → l.cells ≤ length old.stands → cell ≡ r (log_of l (old.from + k))
+    → Progress r l first k old items → Visits l (old.from + k) cell old new records → Progress r l first (k + 1) new (items ++ records)
+goes_on turns r l first k cell old new items records lt long there at (inl takes) =
     let body : List ℕ = takes.body in
     let number = old.from + k in
     let all : length at.blocks ≡ k = omega (arith, takes.is_next, at.next_is) in
     let shown : Shows r l number body = sym there ∙ takes.shown in
     let next : number ≡ old.from + length at.blocks = omega (arith, all) in
-    let held : cell_in body ≡ number = ap cell_in takes.taken.spelled ∙ cell_is number takes.records takes.taken.block.is_block in
-    subst (Progress r l first (k + 1)) (sym takes.after) (record {
-      blocks = at.blocks ++ takes.records ∷ [];
-      items_are = ap (λ xs. xs ++ takes.records) at.items_are ∙ sym (records_more at.blocks takes.records);
-      stand = stand_more (Shows r l) old.from first at.blocks takes.records at.stand (subst (λ n. Shows r l n (block_bytes n takes.records)) next (shown ∙ ap Some takes.taken.spelled))
-          (subst (λ n. IsBlockFrom n (seqno_after first at.blocks) takes.records) next (subst (λ s. IsBlockFrom number s takes.records) at.seqno_is takes.taken.block));
-      next_is = omega (arith, at.next_is, length-append at.blocks (takes.records ∷ []));
-      seqno_is = ap (λ n. n + length takes.records) at.seqno_is ∙ sym (seqno_more first at.blocks takes.records);
-      so_far = inl (omega (arith, all, length-append at.blocks (takes.records ∷ [])));
+    let held : cell_in body ≡ number = ap cell_in takes.taken.spelled ∙ cell_is number records takes.taken.is_block in
+    let block : IsBlockFrom number old.seqno records = record { is_block = takes.taken.is_block; follow = takes.taken.follow } in
+    subst (λ (scan : Found). Progress r l first (k + 1) scan (items ++ records)) (sym takes.after) (record {
+      blocks = at.blocks ++ records ∷ [];
+      items_are = ap (λ xs. xs ++ records) at.items_are ∙ sym (records_more at.blocks records);
+      stand = stand_more (Shows r l) old.from first at.blocks records at.stand (subst (λ n. Shows r l n (block_bytes n records)) next (shown ∙ ap Some takes.taken.spelled))
+          (subst (λ n. IsBlockFrom n (seqno_after first at.blocks) records) next (subst (λ s. IsBlockFrom number s records) at.seqno_is block));
+      next_is = omega (arith, at.next_is, length-append at.blocks (records ∷ []));
+      seqno_is = ap (λ n. n + length records) at.seqno_is ∙ sym (seqno_more first at.blocks records);
+      so_far = inl (omega (arith, all, length-append at.blocks (records ∷ [])));
       old = λ j b le shows. elim (cases_lt j k) [
         | inl less ↦ (let was = at.old j b less shows in (was.0, omega (arith, was.1)))
         | inr more ↦ (
@@ -144,11 +145,12 @@ goes_on turns r l first k cell old new lt long there at (inl takes) =
       ];
       noted = noted_more turns r l old.from k old.stands cell lt long there at.noted;
     })
-goes_on turns r l first k cell old new lt long there at (inr passes) =
+goes_on turns r l first k cell old new items records lt long there at (inr passes) =
     let number = old.from + k in
     let ends : length at.blocks ≡ k → EndsAt r l old.next = λ all body shown held.
     (let before = passes.before body (there ∙ ap (λ n. r (log_of l n)) (omega (arith, all, at.next_is)) ∙ shown) in omega (arith, before.1, held, at.next_is)) in
-    subst (Progress r l first (k + 1)) (sym passes.after) (record {
+    let same : items ≡ items ++ records = sym (ap (λ xs. items ++ xs) passes.none ∙ append-nil items) in
+    subst (Progress r l first (k + 1) new) same (subst (λ (scan : Found). Progress r l first (k + 1) scan items) (sym passes.after) (record {
       blocks = at.blocks;
       items_are = at.items_are;
       stand = at.stand;
@@ -166,35 +168,46 @@ goes_on turns r l first k cell old new lt long there at (inr passes) =
             (before.0 ∙ ap (λ i. (old.from + i) % l.cells) (sym same), omega (arith, before.1, at.next_is)))
       ];
       noted = noted_more turns r l old.from k old.stands cell lt long there at.noted;
-    })
+    }))
 
 -- ---- why a visit refuses
 
--- a cell that can be neither taken nor passed is of no log
+-- Behind the items so far come records that stop the scan.
+pub record HasStopped (Stops : List Judged → Type 0) (items all : List Judged) : Type 0 where
+  pub records : List Judged
+  pub behind : List Judged
+  pub split : all ≡ items ++ (records ++ behind)
+  pub stops : Stops records
+
+-- a cell that can be neither taken nor passed is of no log, but for one whose next records stop the scan
 pub no_log :
-    TurnsAreTaken → BlocksAreTold → (r : Reading) (l : Layout) (first k : ℕ) (cell : Option (List ℕ)) (scan : Found) → k < l.cells → cell ≡ r (log_of l (scan.from + k))
-    → Progress r l first k scan → IsNoCell l (scan.from + k) cell scan → IsOfForm r l scan.from first → ⊥
-no_log turns told r l first k cell scan lt there at bad form =
+    TurnsAreTaken → BlocksAreTold → (Stops : List Judged → Type 0) (r : Reading) (l : Layout) (first k : ℕ) (cell : Option (List ℕ)) (scan : Found) (items : List Judged) → k < l.cells → cell ≡ r (log_of l (scan.from + k))
+    → Progress r l first k scan items → IsNoCell Stops l (scan.from + k) cell scan → (blocks : List (List Judged)) → IsLog r l scan.from first blocks → HasStopped Stops items (records_of blocks)
+no_log turns told Stops r l first k cell scan items lt there at bad blocks is =
     let number = scan.from + k in
     let some : 0 < l.cells = omega (arith, lt) in
-    let blocks = form.0 in
-    let is = form.1 in
     let shown : Shows r l number bad.body = sym there ∙ bad.shown in
     let few : length blocks ≤ l.cells = a_lap_at_most turns told r l scan.from first blocks some is.stand in
     let old : IsOld l (number % l.cells) (scan.from + length blocks) bad.body = is.old (number % l.cells) bad.body (index_small l number some) (ap r (sym (log_is l number some)) ∙ shown) in
     let place : cell_in bad.body % l.cells ≡ number % l.cells = same_cell (cell_in bad.body % l.cells) (number % l.cells) (sym (log_is l (cell_in bad.body) some) ∙ old.in_place) in
     elim bad.why [
-      | inl none ↦ (
-          let all : length at.blocks ≡ k = omega (arith, none.is_next, at.next_is) in
-          let further : k < length blocks = omega (arith, old.below, none.held) in
+      | inl next ↦ (
+          let all : length at.blocks ≡ k = omega (arith, next.is_next, at.next_is) in
+          let further : k < length blocks = omega (arith, old.below, next.held) in
           let block = standing_at (Shows r l) scan.from first k blocks further is.stand in
           let front : take k blocks ≡ at.blocks = ap (λ n. take n blocks) (sym all) ∙ begins told r l scan.from first at.blocks blocks (omega (arith, all, further)) at.stand is.stand in
           let seqno : seqno_after first (take k blocks) ≡ scan.seqno = ap (seqno_after first) front ∙ sym at.seqno_is in
-          none.none block.records (record {
-            block = subst (λ s. IsBlockFrom number s block.records) seqno block.block;
-            spelled = same_Some bad.body (block_bytes number block.records) (sym shown ∙ block.there);
-          }))
-      | inr wrong ↦ elim wrong.wrong [
+          record {
+            records = block.records;
+            behind = records_of (drop (suc k) blocks);
+            split = block.split ∙ ap (λ xs. xs ++ (block.records ++ records_of (drop (suc k) blocks))) (ap records_of front ∙ sym at.items_are);
+            stops = next.stops block.records (record {
+              is_block = block.block.is_block;
+              follow = subst (λ s. SeqnosFrom s block.records) seqno block.block.follow;
+              spelled = same_Some bad.body (block_bytes number block.records) (sym shown ∙ block.there);
+            });
+          })
+      | inr wrong ↦ absurd (elim wrong.wrong [
         | inl misplaced ↦ misplaced place
         | inr late ↦ (
             let same : cell_in bad.body ≡ number = same_number turns l scan.from (cell_in bad.body) number late (omega (arith, old.below, few)) (omega arith) (omega (arith, lt)) place in
@@ -208,36 +221,35 @@ no_log turns told r l first k cell scan lt there at bad form =
                   let number_is : cell_in (block_bytes last block.records) ≡ scan.next = omega (arith, held, here) in
                   ended.1 (block_bytes last block.records) (subst (λ n. Shows r l n (block_bytes last block.records)) here block.there) number_is)
             ])
-      ]
+      ])
     ]
 
 -- ---- what it counts on any device
 
 -- a visit takes a block at most, and only that of its number
 pub visits_within :
-    (l : Layout) (number k start : ℕ) (cell : Option (List ℕ)) (old new : Found) → Visits l number cell old new → old.next ≤ start + k → number ≡ start + k → new.next ≤ start + (k + 1)
-visits_within l number k start cell old new (inl takes) le is = let next : new.next ≡ old.next + 1 = ap (λ (x : Found). x.next) takes.after in omega (arith, next, le)
-visits_within l number k start cell old new (inr passes) le is = let next : new.next ≡ old.next = ap (λ (x : Found). x.next) passes.after in omega (arith, next, le)
+    (l : Layout) (number k start : ℕ) (cell : Option (List ℕ)) (old new : Found) (records : List Judged) → Visits l number cell old new records → old.next ≤ start + k → number ≡ start + k → new.next ≤ start + (k + 1)
+visits_within l number k start cell old new records (inl takes) le is = let next : new.next ≡ old.next + 1 = ap (λ (x : Found). x.next) takes.after in omega (arith, next, le)
+visits_within l number k start cell old new records (inr passes) le is = let next : new.next ≡ old.next = ap (λ (x : Found). x.next) passes.after in omega (arith, next, le)
 
 -- the seqno goes on by the records that are taken
-pub visits_counted : (l : Layout) (number first : ℕ) (cell : Option (List ℕ)) (old new : Found) → Visits l number cell old new → old.seqno ≡ first + length old.items → new.seqno ≡ first + length new.items
-visits_counted l number first cell old new (inl takes) is =
-    let seqno : new.seqno ≡ old.seqno + length takes.records = ap (λ (x : Found). x.seqno) takes.after in
-    let items : length new.items ≡ length (old.items ++ takes.records) = ap (λ (x : Found). length x.items) takes.after in
-    omega (arith, seqno, items, length-append old.items takes.records, is)
-visits_counted l number first cell old new (inr passes) is =
+pub visits_counted : (l : Layout) (number first : ℕ) (cell : Option (List ℕ)) (old new : Found) (items records : List Judged) → Visits l number cell old new records → old.seqno ≡ first + length items → new.seqno ≡ first + length (items ++ records)
+visits_counted l number first cell old new items records (inl takes) is =
+    let seqno : new.seqno ≡ old.seqno + length records = ap (λ (x : Found). x.seqno) takes.after in
+    omega (arith, seqno, length-append items records, is)
+visits_counted l number first cell old new items records (inr passes) is =
     let seqno : new.seqno ≡ old.seqno = ap (λ (x : Found). x.seqno) passes.after in
-    let items : length new.items ≡ length old.items = ap (λ (x : Found). length x.items) passes.after in
-    omega (arith, seqno, items, is)
+    let none : length records ≡ 0 = ap (λ (xs : List Judged). length xs) passes.none in
+    omega (arith, seqno, none, length-append items records, is)
 
 -- and by one at least with each block
 pub visits_filled :
-    (l : Layout) (number first start : ℕ) (cell : Option (List ℕ)) (old new : Found) → Visits l number cell old new → old.next + first ≤ start + old.seqno → new.next + first ≤ start + new.seqno
-visits_filled l number first start cell old new (inl takes) le =
+    (l : Layout) (number first start : ℕ) (cell : Option (List ℕ)) (old new : Found) (records : List Judged) → Visits l number cell old new records → old.next + first ≤ start + old.seqno → new.next + first ≤ start + new.seqno
+visits_filled l number first start cell old new records (inl takes) le =
     let next : new.next ≡ old.next + 1 = ap (λ (x : Found). x.next) takes.after in
-    let seqno : new.seqno ≡ old.seqno + length takes.records = ap (λ (x : Found). x.seqno) takes.after in
-    omega (arith, next, seqno, takes.taken.block.is_block.some, le)
-visits_filled l number first start cell old new (inr passes) le =
+    let seqno : new.seqno ≡ old.seqno + length records = ap (λ (x : Found). x.seqno) takes.after in
+    omega (arith, next, seqno, takes.taken.is_block.some, le)
+visits_filled l number first start cell old new records (inr passes) le =
     let next : new.next ≡ old.next = ap (λ (x : Found). x.next) passes.after in
     let seqno : new.seqno ≡ old.seqno = ap (λ (x : Found). x.seqno) passes.after in
     omega (arith, next, seqno, le)
@@ -245,8 +257,8 @@ visits_filled l number first start cell old new (inr passes) le =
 -- ---- what is found in the end
 
 -- the blocks that were taken are the log
-is_log : (r : Reading) (l : Layout) (first : ℕ) (scan : Found) → 0 < l.cells → scan.from < first → first ≤ MAX_SEQNO + 1 → (at : Progress r l first l.cells scan) → IsLog r l scan.from first at.blocks
-is_log r l first scan some starts limit at = record {
+is_log : (r : Reading) (l : Layout) (first : ℕ) (scan : Found) (items : List Judged) → 0 < l.cells → scan.from < first → first ≤ MAX_SEQNO + 1 → (at : Progress r l first l.cells scan items) → IsLog r l scan.from first at.blocks
+is_log r l first scan items some starts limit at = record {
   starts = starts;
   limit = limit;
   stand = at.stand;
@@ -268,13 +280,13 @@ found_rests true l i next (Some body) e old = (body, refl, old body refl)
 found_rests false l i next (Some body) e old = absurd cc
 
 pub finds :
-    TurnsAreTaken → BlocksAreTold → (l : Layout) (bytes : List ℕ) (first : ℕ) (scan : Found) (log : Standing) → 0 < l.cells → l.cells ≤ length scan.stands → scan.from < first → first ≤ MAX_SEQNO + 1
-    → Progress (reading_of l bytes) l first l.cells scan → log ≡ record { start = scan.from; next = scan.next; seqno = scan.seqno; cells = l.cells; phase = Resting; stands = scan.stands }
-    → Finds l bytes scan.from first log scan.items
-finds turns told l bytes first scan log some long starts limit at e =
+    TurnsAreTaken → BlocksAreTold → (l : Layout) (bytes : List ℕ) (first : ℕ) (scan : Found) (items : List Judged) (log : Standing) → 0 < l.cells → l.cells ≤ length scan.stands → scan.from < first → first ≤ MAX_SEQNO + 1
+    → Progress (reading_of l bytes) l first l.cells scan items → log ≡ record { start = scan.from; next = scan.next; seqno = scan.seqno; cells = l.cells; phase = Resting; stands = scan.stands }
+    → Finds l bytes scan.from first log items
+finds turns told l bytes first scan items log some long starts limit at e =
     let r = reading_of l bytes in
-    let whole = is_log r l first scan some starts limit at in
-    subst (λ (x : Standing). Finds l bytes scan.from first x scan.items) (sym e) (record {
+    let whole = is_log r l first scan items some starts limit at in
+    subst (λ (x : Standing). Finds l bytes scan.from first x items) (sym e) (record {
       blocks = at.blocks;
       items_are = at.items_are;
       is_log = whole;

@@ -1,16 +1,15 @@
 -- What a scan finds, and how far it has come.
-use Rattle.std.specs.Prelude.{◌≡◌, ◌⊎◌, ℕ, ◌+◌, ◌<◌, ◌≤◌, ◌%◌, Bool, is_some, List, [], ◌++◌, length, slice_set, Option, Some}
+use Rattle.std.specs.Prelude.{◌≡◌, ◌⊎◌, ℕ, ◌+◌, ◌<◌, ◌≤◌, ◌%◌, Bool, is_some, List, [], length, slice_set, Option, Some}
 use Rattle.rep_types.specs.declared.judged.Judged.{Judged}
 use Rattle.rep_types.specs.declared.limits.TheConstants.{MAX_CELLS, MAX_SEQNO}
-use Rattle.rep_types.specs.declared.refusal.Part.TheVariants.{Log as in_log}
-use Rattle.rep_types.specs.declared.refusal.Refusal.{Refusal}
-use Rattle.rep_types.specs.declared.refusal.Refusal.TheVariants.{OutOfMemory, Corrupt}
-use Rattle.rep_record.specs.Blocks.{block_bytes}
+use Rattle.rep_record.specs.declared.replays.Replays.{Ghosts}
+use Rattle.rep_record.specs.Blocks.{IsNextBlock}
+use Rattle.rep_record.specs.Replaying.{Replayed}
 use Rattle.rep_layout.specs.declared.place.Layout.{Layout}
-use Rattle.rep_cells.specs.Readings.{reading_of}
+use Rattle.rep_cells.specs.Readings.{Reading, reading_of}
 use Rattle.rep_cells.specs.Known.{found}
 use Rattle.rep_log.specs.declared.phase.Phase.TheVariants.{Resting}
-use Rattle.rep_log.specs.Tail.{IsBlockFrom, records_of, cell_in, IsLog}
+use Rattle.rep_log.specs.Tail.{records_of, cell_in, IsLog}
 use Rattle.rep_log.specs.Standing.{Standing, LogIs}
 
 -- a log has a cell, and no more than the limit
@@ -41,19 +40,24 @@ pub record IsScanned (l : Layout) (from first : ℕ) (log : Standing) (items : L
   pub filled : log.next + first ≤ log.start + log.seqno
   pub limit : log.seqno ≤ MAX_SEQNO + 1
 
--- A refusal that a scan may answer: no memory, or cells that hold no log.
-abbrev pub RefusesLog : Type 0 → Refusal → Type 0
-RefusesLog Reason e = (e ≡ OutOfMemory) ⊎ ((e ≡ Corrupt in_log) × Reason)
+-- Of a scan: the log that it found, and the items of it that were given on, and where the device is honest what its bytes hold.
+pub record Scans {S : Type 0} (g : Ghosts S) (IsHonest : Type 0) (l : Layout) (bytes : List ℕ) (from first : ℕ) (log : Standing) (old new : S) : Type 0 where
+  pub items : List Judged
+  pub scanned : IsScanned l from first log items
+  pub replayed : Replayed g old items new
+  pub finds : IsHonest → Finds l bytes from first log items
+
+-- Whatever log the reading holds, this is so of its records.
+abbrev pub StopsIn : (List Judged → Type 0) → Reading → Layout → ℕ → ℕ → Type 0
+StopsIn Stops r l from first = (blocks : List (List Judged)) → IsLog r l from first blocks → Stops (records_of blocks)
 
 -- ---- a scan while it goes on
 
--- the number that it began with, the number and the seqno behind the last block that was taken, the records of those that
--- were, and which cells stand open
+-- the number that it began with, the number and the seqno behind the last block that was taken, and which cells stand open
 pub record Found : Type 0 where
   pub from : ℕ
   pub next : ℕ
   pub seqno : ℕ
-  pub items : List Judged
   pub stands : List Bool
 
 -- Nothing was visited yet.
@@ -61,54 +65,56 @@ pub record IsBegun (scan : Found) (from seqno : ℕ) : Type 0 where
   pub from_is : scan.from ≡ from
   pub next_is : scan.next ≡ from
   pub seqno_is : scan.seqno ≡ seqno
-  pub items_are : scan.items ≡ []
 
 -- the log that is at rest behind what was taken
 abbrev pub rests_as : Layout → Found → Standing
 rests_as l scan = record { start = scan.from; next = scan.next; seqno = scan.seqno; cells = l.cells; phase = Resting; stands = scan.stands }
 
--- The bytes are the next block: of this number, and of seqnos from this one on.
-pub record IsTaken (number seqno : ℕ) (body : List ℕ) (records : List Judged) : Type 0 where
-  pub block : IsBlockFrom number seqno records
-  pub spelled : body ≡ block_bytes number records
-
--- with the records of one block more
+-- with a block more, of these records
 abbrev pub taken_with : List Judged → Found → Found
-taken_with records scan = record scan { next = scan.next + 1; seqno = scan.seqno + length records; items = scan.items ++ records }
+taken_with records scan = record scan { next = scan.next + 1; seqno = scan.seqno + length records }
 
 -- with what this cell reads as
 abbrev pub noted_at : ℕ → Option (List ℕ) → Found → Found
 noted_at i cell scan = record scan { stands = slice_set scan.stands i (is_some cell) }
 
--- The cell holds the next block, and it is taken.
-pub record Takes (l : Layout) (number : ℕ) (cell : Option (List ℕ)) (old new : Found) : Type 0 where
+-- The cell holds the next block, of these records, and it is taken.
+pub record Takes (l : Layout) (number : ℕ) (cell : Option (List ℕ)) (old new : Found) (records : List Judged) : Type 0 where
   pub is_next : number ≡ old.next
   pub body : List ℕ
   pub shown : cell ≡ Some body
-  pub records : List Judged
-  pub taken : IsTaken number old.seqno body records
+  pub taken : IsNextBlock number old.seqno body records
   pub after : new ≡ taken_with records (noted_at (number % l.cells) cell old)
 
 -- The cell is passed: what it holds, if it is open, belongs there and is from before the scan's first block.
-pub record Passes (l : Layout) (number : ℕ) (cell : Option (List ℕ)) (old new : Found) : Type 0 where
+pub record Passes (l : Layout) (number : ℕ) (cell : Option (List ℕ)) (old new : Found) (records : List Judged) : Type 0 where
+  pub none : records ≡ []
   pub before : (body : List ℕ) → cell ≡ Some body → (cell_in body % l.cells ≡ number % l.cells) × (cell_in body < old.from)
   pub after : new ≡ noted_at (number % l.cells) cell old
 
-abbrev pub Visits : Layout → ℕ → Option (List ℕ) → Found → Found → Type 0
-Visits l number cell old new = Takes l number cell old new ⊎ Passes l number cell old new
+abbrev pub Visits : Layout → ℕ → Option (List ℕ) → Found → Found → List Judged → Type 0
+Visits l number cell old new records = Takes l number cell old new records ⊎ Passes l number cell old new records
 
--- Why the cell can be neither taken nor passed: it holds the next number, but no block of it with the next seqnos; or it holds
--- another number, which doesn't belong there or isn't from before the scan's first block.
-pub record HoldsNoBlock (number : ℕ) (old : Found) (body : List ℕ) : Type 0 where
+-- The cell of this number was read and visited, and the records that were taken were given on.
+pub record ReadsOn {S : Type 0} (g : Ghosts S) (IsRead : Option (List ℕ) → Type 0) (l : Layout) (number : ℕ) (old new : Found) (before after : S) : Type 0 where
+  pub cell : Option (List ℕ)
+  pub is_read : IsRead cell
+  pub records : List Judged
+  pub visits : Visits l number cell old new records
+  pub replayed : Replayed g before records after
+
+-- Why the cell can be neither taken nor passed: it holds the next number, and whatever block of it with the next seqnos it is, its
+-- records stop the scan; or it holds another number, which doesn't belong there or isn't from before the scan's first block.
+pub record HoldsNoBlock (Stops : List Judged → Type 0) (number : ℕ) (old : Found) (body : List ℕ) : Type 0 where
   pub is_next : number ≡ old.next
   pub held : cell_in body ≡ number
-  pub none : (records : List Judged) → IsTaken number old.seqno body records → ⊥
+  pub stops : (records : List Judged) → IsNextBlock number old.seqno body records → Stops records
 
 pub record IsMisplaced (l : Layout) (number : ℕ) (old : Found) (body : List ℕ) : Type 0 where
   pub other : cell_in body ≡ number → number ≡ old.next → ⊥
   pub wrong : (cell_in body % l.cells ≡ number % l.cells → ⊥) ⊎ (old.from ≤ cell_in body)
 
-pub record IsNoCell (l : Layout) (number : ℕ) (cell : Option (List ℕ)) (old : Found) : Type 0 where
+pub record IsNoCell (Stops : List Judged → Type 0) (l : Layout) (number : ℕ) (cell : Option (List ℕ)) (old : Found) : Type 0 where
   pub body : List ℕ
   pub shown : cell ≡ Some body
-  pub why : HoldsNoBlock number old body ⊎ IsMisplaced l number old body
+  pub why : HoldsNoBlock Stops number old body ⊎ IsMisplaced l number old body

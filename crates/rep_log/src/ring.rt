@@ -4,7 +4,8 @@ ghost use Rattle.std.specs.Prelude.{◌≡◌, ◌==◌, ◌+◌, ◌-◌, ◌<�
 ghost use Rattle.rep_types.specs.declared.judged.Judged.{Judged};
 ghost use Rattle.rep_disk.specs.History.{seen, failed};
 ghost use Rattle.rep_disk.specs.Devices.{Calls, SameHistory};
-ghost use Rattle.rep_record.specs.Blocks.{IsBlock, block_bytes};
+ghost use Rattle.rep_record.specs.Blocks.{IsBlock, RefusesRecords, block_bytes};
+ghost use Rattle.rep_record.specs.Replaying.{Rejected};
 ghost use Rattle.rep_layout.specs.Places.{offset_of, gate_of, log_of};
 ghost use Rattle.rep_cells.specs.Device.{disk_of, layout_of};
 ghost use Rattle.rep_cells.specs.Readings.{IsCell, reading_of};
@@ -12,16 +13,15 @@ ghost use Rattle.rep_cells.specs.Calls.{gate, WritesOnly};
 ghost use Rattle.rep_log.specs.Tail.{IsBlockFrom, IsOfForm};
 ghost use Rattle.rep_log.specs.Standing.{index_of, due_of};
 ghost use Rattle.rep_log.specs.Moves.{unless_due, step_refusal, seal_refusal, fault_of, recycled, sealed_as, gated, after_sync, durable_by, started, restarted, IsRefused, IsStep, SyncsLog, StartsLater, Restarts};
-ghost use Rattle.rep_log.specs.Scanning.{HasCells, Finds, IsScanned, RefusesLog, rests_as};
+ghost use Rattle.rep_log.specs.Scanning.{HasCells, Scans, StopsIn, rests_as};
 
 use crate::phase::{Phase, Step};
 use crate::scan::{CORRUPT, Scan};
 use rep_cells::{Cells, refusal_of};
 use rep_disk::Disk;
 use rep_layout::{LOG_BODY, Layout, turns_are_taken};
-use rep_record::{BlockBuilder, blocks_are_told};
-use rep_types::{Judged, MAX_CELLS, MAX_SEQNO, Refusal};
-use std::alloc::Global;
+use rep_record::{BlockBuilder, Replays, blocks_are_told};
+use rep_types::{MAX_CELLS, MAX_SEQNO, Refusal};
 use std::marker::Model;
 
 /// How many cells a log may have.
@@ -52,30 +52,29 @@ impl Model for Log {
 }
 
 impl Log {
-    /// Reads all cells in turn: the log of a disk whose superblock has this start and this position,
-    /// and the records of its blocks. On an honest device a sync has to stand before it, so that what
-    /// is read is stable.
+    /// Reads all cells in turn: the log of a disk whose superblock has this start and this position. The
+    /// records of its blocks are given on as they are read. On an honest device a sync has to stand before
+    /// it, so that what is read is stable.
     ///
     /// Refuses with `BadParams` a layout without cells or of more than 1,024. From the start on, blocks
     /// are taken as long as the next cell stands open over the next number, at most one lap. Refuses with
     /// `Corrupt` of the log where such a body is no block, or its seqnos do not follow; where an open cell
-    /// holds a number that does not belong there, or one from the start on that was not taken; and where
-    /// the start is behind the position, or that is over 2^60. Refuses with `DiskFault` where the device
-    /// failed, and with `OutOfMemory`.
-    pub fn scan<D: Disk>(
-        alloc: Global,
+    /// holds a number that does not belong there, or one from the start on that was not taken; where
+    /// the start is behind the position, or that is over 2^60; and where a record is refused so. Refuses with
+    /// `DiskFault` where the device failed, and with `OutOfMemory` where a record is.
+    pub fn scan<D: Disk, S: Replays>(
         cells: &mut Cells<D>,
         start: u64,
         position: u64,
-    ) -> Result<(Log, Vec<Judged>), Refusal>
+        to: &mut S,
+    ) -> Result<Log, Refusal>
         ensures call { Calls D.Disk (disk_of cells.old) (disk_of cells.new) (fault_of result) }
         ensures layout { layout_of cells.new ≡ layout_of cells.old }
         ensures same { SameHistory D.Disk (disk_of cells.old) (disk_of cells.new) }
         ensures cells { HasCells (layout_of cells.old) ⊎ (result ≡ Err Refusal.BadParams) }
-        // On any device.
-        ensures scanned { IfOk result (λ x. IsScanned (layout_of cells.old) start (position + 1) x.0 x.1.items) }
-        ensures finds { D.honest (disk_of cells.old) → failed (D.history (disk_of cells.old)) ≡ [] → IfOk result (λ x. Finds (layout_of cells.old) (seen (D.history (disk_of cells.old))) start (position + 1) x.0 x.1.items) }
-        ensures refused { IfErr result (λ e. (e ≡ Refusal.DiskFault) ⊎ (((e ≡ Refusal.BadParams) × (HasCells (layout_of cells.old) → ⊥)) ⊎ RefusesLog (D.honest (disk_of cells.old) → failed (D.history (disk_of cells.old)) ≡ [] → IsOfForm (reading_of (layout_of cells.old) (seen (D.history (disk_of cells.old)))) (layout_of cells.old) start (position + 1) → ⊥) e)) }
+        // On any device, and on an honest one.
+        ensures scans { IfOk result (λ log. Scans S.Replays (D.honest (disk_of cells.old) × (failed (D.history (disk_of cells.old)) ≡ [])) (layout_of cells.old) (seen (D.history (disk_of cells.old))) start (position + 1) log to.old to.new) }
+        ensures refused { IfErr result (λ e. (e ≡ Refusal.DiskFault) ⊎ (((e ≡ Refusal.BadParams) × (HasCells (layout_of cells.old) → ⊥)) ⊎ RefusesRecords (D.honest (disk_of cells.old) → failed (D.history (disk_of cells.old)) ≡ [] → StopsIn (Rejected S.Replays to.old) (reading_of (layout_of cells.old) (seen (D.history (disk_of cells.old)))) (layout_of cells.old) start (position + 1)) e)) }
     {
         turns_are_taken();
         blocks_are_told();
@@ -87,31 +86,29 @@ impl Log {
             return Err(CORRUPT);
         }
         let mut room = [0; LOG_BODY];
-        let mut scan = Scan::new(alloc, start, position);
+        let mut scan = Scan::new(start, position);
         for k in 0..layout.cells {
-            scan.read_on(cells, start + u64::from(k), &mut room)?;
+            scan.read_on(cells, start + u64::from(k), &mut room, to)?;
         }
         Ok(Log::at_rest(scan, layout))
     }
 
-    /// The log that a scan found, and the records of its blocks.
-    fn at_rest(scan: Scan, layout: Layout) -> (Log, Vec<Judged>)
+    /// The log that a scan found.
+    fn at_rest(scan: Scan, layout: Layout) -> Log
         requires { HasCells layout }
-        ensures log { result.0 ≡ rests_as layout scan }
-        ensures items { result.1.items ≡ scan.items }
-        ensures later { result.0.start ≤ result.0.next }
-        ensures limit { result.0.seqno ≤ MAX_SEQNO + 1 }
+        ensures log { result ≡ rests_as layout scan }
+        ensures later { result.start ≤ result.next }
+        ensures limit { result.seqno ≤ MAX_SEQNO + 1 }
     {
         let stands = scan.stands;
-        let log = Log {
+        Log {
             start: scan.from,
             next: scan.next,
             seqno: scan.seqno,
             cells: layout.cells,
             phase: Phase::Resting,
             stands,
-        };
-        (log, scan.items)
+        }
     }
 
     /// The number of the first block that is still needed.

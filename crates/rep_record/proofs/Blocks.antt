@@ -14,7 +14,7 @@ use Rattle.rep_forms.specs.Runs.{Leads, Follow}
 use Rattle.rep_record.specs.declared.block_reader.Head.{Head}
 use Rattle.rep_record.specs.declared.limits.TheConstants.{MAX_BLOCK, BLOCK}
 use Rattle.rep_record.specs.Records.{IsRecord, record_form}
-use Rattle.rep_record.specs.Blocks.{first_seqno, SeqnosFrom, run_bytes, IsBlock, block_bytes, Contents, contents, head_bytes, head_form, next_seqno, AreRecords, IsRead}
+use Rattle.rep_record.specs.Blocks.{first_seqno, SeqnosFrom, run_bytes, IsBlock, block_bytes, Contents, contents, head_bytes, head_form, head_with, next_seqno, HasHead, AreRecords, IsRead}
 
 -- ---- seqnos that follow one another
 
@@ -32,7 +32,7 @@ seqnos_of n (j ∷ js) t h =
     (one.0, subst (λ k. SeqnosFrom k js) (sym one.1) (seqnos_of h.0 js t h.2))
 
 -- and the other way
-follow_of : (n : ℕ) (js : List Judged) → AllByRecursion IsRecord js → SeqnosFrom n js → Follow next_seqno n js
+pub follow_of : (n : ℕ) (js : List Judged) → AllByRecursion IsRecord js → SeqnosFrom n js → Follow next_seqno n js
 follow_of n [] h s = (n, refl)
 follow_of n (j ∷ js) h s =
     let rest = follow_of (n + 1) js h.1 s.1 in
@@ -40,7 +40,7 @@ follow_of n (j ∷ js) h s =
     (rest.0, (n + 1, rw (eq-eqb j.seqno n s.0, le-leb n MAX_SEQNO small) refl, rest.1))
 
 -- the first seqno is that of the first record
-first_is : (n : ℕ) (js : List Judged) → 1 ≤ length js → SeqnosFrom n js → first_seqno js ≡ n
+pub first_is : (n : ℕ) (js : List Judged) → 1 ≤ length js → SeqnosFrom n js → first_seqno js ≡ n
 first_is n [] some h = absurd (omega (arith, some))
 first_is n (j ∷ js) some h = h.0
 
@@ -74,23 +74,27 @@ block_read bytes cell js h =
 
 -- ---- what is spelled so is read
 
+-- its head
+pub head_says : (bytes : List ℕ) (cell : ℕ) (js : List Judged) → IsBlock cell js → bytes ≡ block_bytes cell js → HasHead bytes (head_with cell (first_seqno js) (length js)) (run_bytes js ++ zeros (MAX_BLOCK - length (run_bytes js)))
+head_says bytes cell js h e =
+    let filling : List ℕ = zeros (MAX_BLOCK - length (run_bytes js)) in
+    let there : bytes ≡ head_bytes (head_with cell (first_seqno js) (length js)) ++ (run_bytes js ++ filling) = rw e (simp append_assoc) in
+    record {
+      size = rw there (simp (length-append, length_number, length_zeros) (omega (arith, h.fits)));
+      fits = record { cell = h.cell_fits; first = first_small js h.are_records; count = omega (arith, h.few) };
+      there = there;
+      some = h.some;
+      few = h.few;
+    }
+
 pub says : (bytes : List ℕ) (cell : ℕ) (js : List Judged) → IsBlock cell js → bytes ≡ block_bytes cell js → IsRead bytes cell js
 says bytes cell js h e =
     let filling : List ℕ = zeros (MAX_BLOCK - length (run_bytes js)) in
-    let head : Head = record { cell = cell; first = first_seqno js; count = length js } in
-    let there : bytes ≡ head_bytes head ++ (run_bytes js ++ filling) = rw e (simp append_assoc) in
-    let size : length bytes ≡ BLOCK = rw there (simp (length-append, length_number, length_zeros) (omega (arith, h.fits))) in
     record {
-      head = head;
+      head = head_with cell (first_seqno js) (length js);
       is_cell = refl;
       body = run_bytes js ++ filling;
-      has_head = record {
-        size = size;
-        fits = record { cell = h.cell_fits; first = first_small js h.are_records; count = omega (arith, h.few) };
-        there = there;
-        some = h.some;
-        few = h.few;
-      };
+      has_head = head_says bytes cell js h e;
       rest = filling;
       are_records = record { size = refl; each = h.are_records; follow = follow_of (first_seqno js) js h.are_records h.follow; there = refl };
       blank = zeros_blank (MAX_BLOCK - length (run_bytes js));

@@ -7,6 +7,7 @@ pub mod TextLines
 pub mod Writing
 pub mod Blocks
 pub mod Gathering
+pub mod Replaying
 pub mod Fronts
 pub mod Rooms
 pub mod Records

@@ -4,7 +4,8 @@ use Rattle.std.specs.List.{flat_map, AllByRecursion}
 use Rattle.rep_types.specs.declared.limits.TheConstants.{MAX_SEQNO}
 use Rattle.rep_types.specs.declared.judged.Judged.{Judged}
 use Rattle.rep_types.specs.declared.refusal.Refusal.{Refusal}
-use Rattle.rep_types.specs.declared.refusal.Refusal.TheVariants.{Malformed}
+use Rattle.rep_types.specs.declared.refusal.Part.TheVariants.{Log as in_log}
+use Rattle.rep_types.specs.declared.refusal.Refusal.TheVariants.{Malformed, OutOfMemory, Corrupt}
 use Rattle.rep_record.specs.declared.limits.TheConstants.{MAX_RECORDS, MAX_BLOCK, BLOCK}
 use Rattle.rep_record.specs.declared.block_reader.Head.{Head}
 use Rattle.rep_forms.specs.Options.{given}
@@ -123,6 +124,10 @@ pub record HasHead (bytes : List ℕ) (head : Head) (rest : List ℕ) : Type 0 w
   pub some : 1 ≤ head.count
   pub few : head.count ≤ MAX_RECORDS
 
+-- the head of the block of this number, of so many records of this seqno and those that follow
+abbrev pub head_with : ℕ → ℕ → ℕ → Head
+head_with cell seqno count = record { cell = cell; first = seqno; count = count }
+
 -- where the next seqno leads, which is this one, at most 2^60
 abbrev pub next_seqno : ℕ → Judged → Option ℕ
 next_seqno n j = given ((j.seqno == n) && nat_le n MAX_SEQNO) (n + 1)
@@ -169,3 +174,21 @@ Refuses bytes e = (HasNoHead bytes × (e ≡ Malformed 0)) ⊎ ((HasNoEnd bytes 
 -- The bytes of a block tell its cell and its records.
 abbrev pub BlocksAreTold : Type 0
 BlocksAreTold = (c d : ℕ) (is js : List Judged) → IsBlock c is → IsBlock d js → block_bytes c is ≡ block_bytes d js → (c ≡ d) × (is ≡ js)
+
+-- ---- the next block of a log
+
+-- The bytes are the block of this number, whose records have this seqno and those that follow.
+pub record IsNextBlock (cell seqno : ℕ) (bytes : List ℕ) (records : List Judged) : Type 0 where
+  pub is_block : IsBlock cell records
+  pub follow : SeqnosFrom seqno records
+  pub spelled : bytes ≡ block_bytes cell records
+
+-- The bytes begin with the record, which has this seqno.
+pub record IsNextRecord (seqno : ℕ) (bytes : List ℕ) (j : Judged) (rest : List ℕ) : Type 0 where
+  pub is_record : IsRecord j
+  pub seqno_is : j.seqno ≡ seqno
+  pub there : bytes ≡ record_bytes j ++ rest
+
+-- A refusal of a log's records: no memory, or a log that is corrupt for this reason.
+abbrev pub RefusesRecords : Type 0 → Refusal → Type 0
+RefusesRecords Reason e = (e ≡ OutOfMemory) ⊎ ((e ≡ Corrupt in_log) × Reason)

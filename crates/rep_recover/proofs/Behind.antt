@@ -1,11 +1,10 @@
 -- What stands behind a superblock, and which part fails first.
-use Rattle.std.proofs.Common.{◌≡◌, ℕ, ◌+◌, ◌<◌, inl, inr, true, List, [], ◌∷◌, Result, IfErr, refl, sym, ap, subst, ◌∙◌, arith}
+use Rattle.std.proofs.Common.{◌≡◌, ℕ, ◌+◌, ◌<◌, inl, inr, true, List, [], ◌∷◌, length, Result, IfErr, refl, sym, ap, subst, ◌∙◌, arith}
 use Rattle.std.specs.Result.{IsErrAnd}
 use Rattle.std.proofs.lemmas.Bool.Decides.{nat_tests}
 use Rattle.std.proofs.lemmas.Result.{err_from_is_err_and}
 use Rattle.rep_types.specs.declared.judged.Judged.{Judged}
 use Rattle.rep_types.specs.declared.refusal.Part.{Part}
-use Rattle.rep_types.specs.declared.refusal.Part.TheVariants.{Log as in_log}
 use Rattle.rep_types.specs.declared.refusal.Refusal.{Refusal}
 use Rattle.rep_types.specs.Windows.{Window as WindowOf}
 use Rattle.rep_types.specs.Settings.{Setting, is_setting}
@@ -23,7 +22,7 @@ use Rattle.rep_versions.specs.Versions.{Kept}
 use Rattle.rep_cert.specs.Holdings.{Holding}
 use Rattle.rep_steps.specs.Images.{AreJudgedFrom}
 use Rattle.rep_image.specs.Bases.{HasWindow}
-use Rattle.rep_recover.specs.Judging.{bare, HasJudged, RefusesItems}
+use Rattle.rep_recover.specs.Judging.{bare, HasJudged}
 use Rattle.rep_recover.specs.Looking.{RefusesPart, RefusesGrowing, HasBlocks, HasTail, HasBadPage}
 use Rattle.rep_recover.specs.Opening.{FailsAtLog, FailsAtPages, RefusesBehind}
 
@@ -42,10 +41,29 @@ no_blocks Has n seqno [] stand none = refl
 no_blocks Has n seqno ([] ∷ blocks) stand none = absurd (omega (arith, stand.1.is_block.some))
 no_blocks Has n seqno ((j ∷ records) ∷ blocks) stand none = absurd cc
 
-pub fails_at_log : (r : Reading) (b : SuperBody) (beside : WindowOf) → HasWindow r b beside → ((blocks : List (List Judged)) → HasBlocks r b blocks → ⊥) → FailsAtLog r b
-fails_at_log r b beside window none = record { beside = beside; window = window; none = λ items tail. none tail.blocks tail.has }
+-- where there is no item, by their number
+pub no_items : (items : List Judged) → length items ≡ 0 → items ≡ []
+no_items [] none = refl
+no_items (j ∷ items) none = absurd (omega (arith, none))
 
-module _ (told : TheLogIsTold) (bytes : List ℕ) (b : SuperBody) (is : IsSuper b) (log : Standing) (items : List Judged) (finds : Finds (layout_of b.params) bytes b.start (b.position + 1) log items) where
+pub fails_at_log :
+    (r : Reading) (b : SuperBody) (beside : WindowOf) → HasWindow r b beside
+    → ((blocks : List (List Judged)) → HasBlocks r b blocks → AreJudgedFrom b.params (bare b.position beside) (records_of blocks) → ⊥) → FailsAtLog r b
+fails_at_log r b beside window none = record {
+  beside = beside;
+  window = window;
+  none = λ items tail. none tail.blocks tail.has (subst (λ (js : List Judged). AreJudgedFrom b.params (bare b.position beside) js) tail.items_are tail.judged);
+}
+
+-- without a cluster a log that was found has no block, so that one with a block is found nowhere
+pub fails_undefined :
+    TheLogIsTold → (bytes : List ℕ) (b : SuperBody) → IsSuper b → IsNil b.uuid → (log : Standing) (items : List Judged) → Finds (layout_of b.params) bytes b.start (b.position + 1) log items → (length items ≡ 0 → ⊥)
+    → (blocks : List (List Judged)) → HasBlocks (reading_of (layout_of b.params) bytes) b blocks → ⊥
+fails_undefined told bytes b is nil log items finds some blocks has =
+    let same : blocks ≡ finds.blocks = told.only (reading_of (layout_of b.params) bytes) (layout_of b.params) b.start (b.position + 1) blocks finds.blocks (some_cell b.params is.setting) has.log finds.is_log in
+    some (ap length (finds.items_are ∙ ap records_of (sym same ∙ has.undefined nil)))
+
+module _ (bytes : List ℕ) (b : SuperBody) (log : Standing) (items : List Judged) (finds : Finds (layout_of b.params) bytes b.start (b.position + 1) log items) where
   abbrev r : Reading
   r = reading_of (layout_of b.params) bytes
 
@@ -53,19 +71,6 @@ module _ (told : TheLogIsTold) (bytes : List ℕ) (b : SuperBody) (is : IsSuper 
   has_blocks undefined = record {
     log = finds.is_log;
     undefined = λ nil. no_blocks (Shows r (layout_of b.params)) b.start (b.position + 1) finds.blocks finds.is_log.stand (sym finds.items_are ∙ undefined nil);
-  }
-
-  -- another log's items are these
-  same_items : (beside : WindowOf) (others : List Judged) → HasTail r b beside others → others ≡ items
-  same_items beside others tail =
-      tail.items_are ∙ ap records_of (told.only r (layout_of b.params) b.start (b.position + 1) tail.blocks finds.blocks (some_cell b.params is.setting) tail.has.log finds.is_log) ∙ sym finds.items_are
-
-  -- items that judging doesn't give again are no tail
-  pub fails_judging : (beside : WindowOf) → HasWindow r b beside → (AreJudgedFrom b.params (bare b.position beside) items → ⊥) → FailsAtLog r b
-  fails_judging beside window none = record {
-    beside = beside;
-    window = window;
-    none = λ others tail. none (subst (λ (js : List Judged). AreJudgedFrom b.params (bare b.position beside) js) (same_items beside others tail) tail.judged);
   }
 
   has_tail : (IsNil b.uuid → items ≡ []) → (beside : WindowOf) (h : Holding) (kept : Kept) → HasJudged b.params (bare b.position beside) items h kept → HasTail r b beside items
@@ -84,10 +89,6 @@ refuses_growing part R Reason e f (inr (inr why)) = inr (inr (part, (why.0, f wh
 pub refuses_part : (part : Part) (R : Type 0) (Reason : Part → Type 0) (e : Refusal) → (R → Reason part) → RefusesPart part R e → RefusesBehind Reason e
 refuses_part part R Reason e f (inl fault) = inr (inl fault)
 refuses_part part R Reason e f (inr why) = inr (inr (part, (why.0, f why.1)))
-
-pub refuses_items : (R : Type 0) (Reason : Part → Type 0) (e : Refusal) → (R → Reason in_log) → RefusesItems R e → RefusesBehind Reason e
-refuses_items R Reason e f (inl memory) = inl memory
-refuses_items R Reason e f (inr why) = inr (inr (in_log, (why.0, f why.1)))
 
 -- what holds of a refusal that is passed on
 pub passed_on : {T : Type 0} (P : Refusal → Type 0) (q : Result T Refusal) (e : Refusal) → IsErrAnd q (λ x. x ≡ e) → P e → IfErr q P

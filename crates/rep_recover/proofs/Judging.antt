@@ -1,5 +1,5 @@
 -- Items that are judged again, one after another.
-use Rattle.std.proofs.Common.{◌≡◌, ℕ, zero, suc, ◌+◌, ◌-◌, ◌<◌, ◌≤◌, ◌⊎◌, inl, inr, Bool, true, false, if◌then◌else◌, List, [], ◌∷◌, ◌++◌, length, length-append, map, take, drop, get_or, add-one, refl, sym, ap, subst, ◌∙◌, arith}
+use Rattle.std.proofs.Common.{◌≡◌, ℕ, suc, ◌+◌, ◌-◌, ◌<◌, ◌≤◌, ◌⊎◌, inl, inr, Bool, true, false, if◌then◌else◌, List, [], ◌∷◌, ◌++◌, length, length-append, append-nil, append_assoc, map, take, refl, sym, ap, subst, ◌∙◌, arith}
 use Rattle.std.proofs.lemmas.Bool.{cases_lt}
 use Rattle.std.proofs.lemmas.List.{take-append-le, take_all}
 use Rattle.std.proofs.lemmas.List.Sums.{fold-append}
@@ -10,13 +10,16 @@ use Rattle.rep_types.specs.Windows.{Window as WindowOf}
 use Rattle.rep_types.specs.Settings.{Setting}
 use Rattle.rep_types.specs.Items.{writes_of}
 use Rattle.rep_types.specs.Order.{State, counts, extended, judge, window_after}
+use Rattle.rep_record.specs.declared.replays.Replays.{Ghosts as Given}
+use Rattle.rep_record.specs.Replaying.{Replayed, Rejected}
 use Rattle.std.specs.FinMap.{empty}
 use Rattle.rep_versions.specs.Versions.{Kept, IsAdded}
 use Rattle.rep_versions.specs.Following.{AreVersionsOf, effect_of, VersionsFollowTheItems}
 use Rattle.rep_cert.specs.Holdings.{Holding, IsAskable, Admits, window_of, verdict_of, made_at}
 use Rattle.rep_steps.specs.Nodes.{advanced, reached}
 use Rattle.rep_steps.specs.Images.{AreJudgedFrom}
-use Rattle.rep_recover.specs.Judging.{IsNext, Notes, HasJudged}
+use Rattle.rep_engine.specs.Checking.{HoldsWindows}
+use Rattle.rep_recover.specs.Judging.{IsNext, Notes, Judges, HasJudged}
 
 -- ---- states on the way
 
@@ -157,10 +160,27 @@ nothing_judged law p S h kept spanned is none =
 
 -- ---- the items one by one
 
-pub split_at : (xs : List Judged) (i : ℕ) (j : Judged) → i < length xs → j ≡ get_or xs i j → xs ≡ take i xs ++ j ∷ drop (i + 1) xs
-split_at xs i j lt is = split xs i lt is ∙ ap (λ (n : ℕ). take i xs ++ j ∷ drop n xs) (sym (add-one i))
-  where
-    split : (ys : List Judged) (k : ℕ) → k < length ys → j ≡ get_or ys k j → ys ≡ take k ys ++ j ∷ drop (suc k) ys
-    split [] k lt is = absurd (omega (arith, lt))
-    split (y ∷ ys) zero lt is = ap (λ (z : Judged). z ∷ ys) (sym is)
-    split (y ∷ ys) (suc k) lt is = ap (λ (zs : List Judged). y ∷ zs) (split ys k (omega (arith, lt)) is)
+module _ {S : Type 0} (g : Given S) (holding : S → Holding) (kept : S → Kept) (judges : (s : S) (j : Judged) (t : S) → g.takes s j t → Judges (holding s) (kept s) j (holding t) (kept t)) (law : VersionsFollowTheItems) (p : Setting) (base : State) where
+  -- one that was given on was judged
+  judged_one : (s t : S) (js : List Judged) (j : Judged) → HasJudged p base js (holding s) (kept s) → g.takes s j t → HasJudged p base (js ++ j ∷ []) (holding t) (kept t)
+  judged_one s t js j at takes =
+      let one = judges s j t takes in
+      judged_on law p base js (holding s) (kept s) at j (holding t) one.next one.admitted (kept t) one.noted
+
+  -- and so all that were
+  pub judged_all : (s t : S) (js items : List Judged) → HasJudged p base js (holding s) (kept s) → Replayed g s items t → HasJudged p base (js ++ items) (holding t) (kept t)
+  judged_all s t js [] at h = subst (λ (u : S). HasJudged p base (js ++ []) (holding u) (kept u)) h (subst (λ (xs : List Judged). HasJudged p base xs (holding s) (kept s)) (sym (append-nil js)) at)
+  judged_all s t js (j ∷ items) at h =
+      subst (λ (xs : List Judged). HasJudged p base xs (holding t) (kept t)) (append_assoc js (j ∷ []) items)
+      (judged_all h.0 t (js ++ j ∷ []) items (judged_one s h.0 js j at h.1) h.2)
+
+  -- the certifier's windows can be written
+  pub windows_all : (s t : S) (js items : List Judged) → HasJudged p base js (holding s) (kept s) → HoldsWindows (holding s) → Replayed g s items t → HoldsWindows (holding t)
+  windows_all s t js [] at windows h = subst (λ (u : S). HoldsWindows (holding u)) h windows
+  windows_all s t js (j ∷ items) at windows h =
+      windows_all h.0 t (js ++ j ∷ []) items (judged_one s h.0 js j at h.1) ((judges s j h.0 h.1).windows (omega (arith, at.made, at.delivered)) windows) h.2
+
+  -- items of which one is rejected are none that judging gives again
+  pub none_judged : ((s : S) (j : Judged) → g.rejects s j → IsNext (holding s) j → ⊥) → (s : S) (items : List Judged) → HasJudged p base [] (holding s) (kept s) → Rejected g s items → AreJudgedFrom p base items → ⊥
+  none_judged why s items at r =
+      not_next law p base r.before (holding r.state) (kept r.state) (judged_all s r.state [] r.before at r.replayed) r.one r.behind items r.split (why r.state r.one r.why)

@@ -24,8 +24,7 @@ use rep_types::Refusal;
 use std::alloc::Global;
 
 impl<D: Disk> Opened<D> {
-    /// The engine on what was found, with the checkpoint at the base, and the certifier beside it. The items go:
-    /// log, versions and certifier have what is needed of them.
+    /// The engine on what was found, with the checkpoint at the base, and the certifier beside it.
     fn start(self, alloc: Global, pool: Pool) -> (Engine<D>, Certifier)
         requires pool { IsPooled D.Disk self.superblock.params.rows (layout_of self.cells) (disk_of self.cells) pool }
         requires engine { IsEngine (layout_of self.cells) (found_at self.superblock self.both) self.log self.versions [] }
@@ -39,7 +38,6 @@ impl<D: Disk> Opened<D> {
             log,
             certifier,
             versions,
-            ..
         } = self;
         let checkpoint = Checkpoint::open(superblock, both);
         let engine = Engine::open(alloc, cells, pool, checkpoint, log, versions);

@@ -1,6 +1,7 @@
 //! What a device holds, read once at the opening.
 
-ghost use Rattle.std.specs.Prelude.{◌≡◌, ◌≤◌, ◌<◌, [], Ok, Err, OnOk, IfOk, IfErr, MatchResult};
+ghost use Rattle.std.specs.Prelude.{◌≡◌, ◌≤◌, ◌<◌, List, [], Ok, Err, OnOk, IfOk, IfErr, MatchResult};
+ghost use Rattle.rep_types.specs.declared.judged.Judged.{Judged};
 ghost use Rattle.rep_types.specs.declared.refusal.Part.{Part as PartOf};
 ghost use Rattle.rep_disk.specs.History.{Synced, seen, failed};
 ghost use Rattle.rep_disk.specs.Devices.{Calls};
@@ -13,7 +14,7 @@ ghost use Rattle.rep_image.specs.Bases.{IsSuperAt};
 ghost use Rattle.rep_recover.specs.Looking.{Looks, fault_in, Counts, HasNoSuper, HasBadSuper, RefusesSupers};
 ghost use Rattle.rep_recover.specs.Opening.{without_log, FailsBehind, IsBehind, StandsBehind, RefusesBehind, IsOpened, Recovers, RefusesToOpen, IsUnwritten};
 
-use crate::judge::judge_again;
+use crate::judge::Judging;
 use crate::logs::find_log;
 use crate::pages::read_pages;
 use crate::supers::find_super;
@@ -22,23 +23,21 @@ use rep_cells::{Cells, found_states_stand};
 use rep_cert::Certifier;
 use rep_disk::{Disk, images_of_a_moment};
 use rep_layout::{Layout, SuperBody};
-use rep_log::{Log, the_log_is_told};
+use rep_log::Log;
 use rep_pages::pages_are_told;
-use rep_types::{Judged, Refusal};
-use rep_versions::Versions;
+use rep_types::Refusal;
+use rep_versions::{Versions, versions_follow_the_items};
 use std::alloc::Global;
 
 /// What stands behind a superblock.
 #[derive(Drop)]
 struct Behind {
     log: Log,
-    items: Vec<Judged>,
-    certifier: Certifier,
-    versions: Versions,
+    judging: Judging,
 }
 
-/// What stands behind the superblock: its window and the log, whose items are judged again, and each page
-/// that it has in a slot, of which only the form is looked at.
+/// What stands behind the superblock: its window and the log, whose items are judged again as they are read, and
+/// each page that it has in a slot, of which only the form is looked at.
 fn read_behind<D: Disk>(
     alloc: Global,
     cells: &mut Cells<D>,
@@ -48,23 +47,17 @@ fn read_behind<D: Disk>(
     requires layout { layout_of cells.old ≡ layout_with superblock.now.params }
     ensures layout { layout_of cells.new ≡ layout_of cells.old }
     ensures looks { Looks D.Disk (disk_of cells.old) (disk_of cells.new) result }
-    ensures any { IfOk result (λ x. IsBehind superblock.now x.log x.items.items x.certifier.current x.versions) }
-    ensures found { D.honest (disk_of cells.old) → failed (D.history (disk_of cells.old)) ≡ [] → IfOk result (λ x. StandsBehind (seen (D.history (disk_of cells.old))) superblock.now x.log x.items.items x.certifier.current x.versions) }
+    ensures found { IfOk result (λ x. (items : List Judged) × IsBehind superblock.now x.log items x.judging.certifier.current x.judging.versions
+        × (D.honest (disk_of cells.old) → failed (D.history (disk_of cells.old)) ≡ [] → StandsBehind (seen (D.history (disk_of cells.old))) superblock.now x.log items x.judging.certifier.current x.judging.versions)) }
     ensures refused { IfErr result (RefusesBehind (λ part. D.honest (disk_of cells.old) → failed (D.history (disk_of cells.old)) ≡ [] → FailsBehind part (reading_of (layout_with superblock.now.params) (seen (D.history (disk_of cells.old)))) superblock.now)) }
 {
-    the_log_is_told();
+    versions_follow_the_items();
     let position = superblock.position;
     let beside = read_window(alloc, cells, superblock)?;
-    let (log, items) = find_log(alloc, cells, superblock)?;
-    let params = superblock.params.copied();
-    let (certifier, versions) = judge_again(alloc, params, position, beside, &items)?;
+    let mut judging = Judging::new(alloc, superblock.params.copied(), position, beside)?;
+    let log = find_log(cells, superblock, &mut judging)?;
     read_pages(cells, superblock)?;
-    Ok(Behind {
-        log,
-        items,
-        certifier,
-        versions,
-    })
+    Ok(Behind { log, judging })
 }
 
 /// What a device holds, as a node goes on with it.
@@ -76,10 +69,8 @@ pub struct Opened<D: Disk> {
     pub superblock: SuperBody,
     /// Whether the other superblock stands open too: a stop came before it was closed.
     pub both: bool,
-    /// The log, at rest behind its last block.
+    /// The log, at rest behind its last block. Its items stand behind the superblock's position.
     pub log: Log,
-    /// The items behind the superblock's position, in order.
-    pub items: Vec<Judged>,
     /// A certifier to which they were delivered.
     pub certifier: Certifier,
     /// What those of them that commit wrote.
@@ -136,8 +127,9 @@ pub fn read_disk<D: Disk>(alloc: Global, disk: D) -> Result<Opened<D>, (D, Refus
     ensures call { MatchResult result (λ o. Calls {T = Unit {0}} D.Disk disk (disk_of o.cells) (Ok tt)) (λ x. Calls D.Disk disk x.0 (fault_in x.1)) }
     ensures small { D.size disk < need_of without_log → result ≡ Err (disk, Refusal.NotFormatted) }
     ensures unwritten { D.honest disk → IfErr result (λ x. IsUnwritten (D.history disk) (D.history x.0)) }
-    ensures opened { IfOk result (λ o. IsOpened (D.size disk) o.superblock (layout_of o.cells) o.log o.items.items o.certifier.current o.versions) }
-    ensures recovers { D.honest disk → IfOk result (λ o. Recovers (D.history disk) (D.history (disk_of o.cells)) o.superblock o.both o.log o.items.items o.certifier.current o.versions) }
+    // On any device, and on an honest one.
+    ensures opened { IfOk result (λ o. (items : List Judged) × IsOpened (D.size disk) o.superblock (layout_of o.cells) o.log items o.certifier.current o.versions
+        × (D.honest disk → Recovers (D.history disk) (D.history (disk_of o.cells)) o.superblock o.both o.log items o.certifier.current o.versions)) }
     ensures refused { IfErr result (λ x. RefusesToOpen (D.honest disk) (seen (D.history disk)) x.1) }
 {
     images_of_a_moment();
@@ -163,20 +155,18 @@ pub fn read_disk<D: Disk>(alloc: Global, disk: D) -> Result<Opened<D>, (D, Refus
 impl Behind {
     /// What stands behind the superblock, with it.
     fn opened<D: Disk>(self, cells: Cells<D>, superblock: SuperBody, both: bool) -> Opened<D>
-        ensures { result ≡ record { cells = cells; superblock = superblock; both = both; log = self.log; items = self.items; certifier = self.certifier; versions = self.versions } }
+        ensures { result ≡ record { cells = cells; superblock = superblock; both = both; log = self.log; certifier = self.judging.certifier; versions = self.judging.versions } }
     {
-        let Behind {
-            log,
-            items,
+        let Behind { log, judging } = self;
+        let Judging {
             certifier,
             versions,
-        } = self;
+        } = judging;
         Opened {
             cells,
             superblock,
             both,
             log,
-            items,
             certifier,
             versions,
         }

@@ -309,7 +309,8 @@ fn scanned(
     start: u64,
     position: u64,
 ) -> Result<(Log, u64), Refusal> {
-    let (log, items) = Log::scan(alloc, device, start, position)?;
+    let mut items = Vec::new(alloc);
+    let log = Log::scan(device, start, position, &mut items)?;
     Ok((log, items.len() as u64))
 }
 

@@ -69,7 +69,9 @@ pub fn find<D: Disk>(
     if cells.sync().is_err() {
         return Err(Refusal::DiskFault);
     }
-    Log::scan(alloc, cells, start, position)
+    let mut items = Vec::new(alloc);
+    let log = Log::scan(cells, start, position, &mut items)?;
+    Ok((log, items))
 }
 
 /// What is found after a stop, at any moment: the durable blocks from the start on, with or without

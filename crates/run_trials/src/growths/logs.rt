@@ -62,10 +62,15 @@ fn device(alloc: Global) -> Result<MemDisk, Refusal> {
 }
 
 fn scan(alloc: Global, cells: &mut Cells<MemDisk>) -> Result<(Log, Vec<Judged>), Refusal> {
-    match Log::scan(alloc, cells, 0, 0) {
-        Err(Refusal::OutOfMemory) => Log::scan(alloc, cells, 0, 0),
-        found => found,
-    }
+    let mut items = Vec::new(alloc);
+    let log = match Log::scan(cells, 0, 0, &mut items) {
+        Err(Refusal::OutOfMemory) => {
+            items.clear();
+            Log::scan(cells, 0, 0, &mut items)?
+        }
+        found => found?,
+    };
+    Ok((log, items))
 }
 
 /// The number of the next block, and how many records are found in the cells.

@@ -1,5 +1,6 @@
-use Rattle.std.proofs.Common.{◌≡◌, ℕ, ◌<◌, ◌≤◌, length, Ok, inl, inr, refl, sym, ap, subst, ◌∙◌, arith}
+use Rattle.std.proofs.Common.{◌≡◌, ℕ, ◌<◌, ◌≤◌, List, length, Ok, inl, inr, refl, sym, ap, subst, ◌∙◌, arith}
 use Rattle.std.proofs.lemmas.Bool.{cases_lt, false≢true}
+use Rattle.rep_types.specs.declared.judged.Judged.{Judged}
 use Rattle.rep_disk.specs.History.{History, Synced, seen, stable, failed}
 use Rattle.rep_layout.specs.declared.super_body.SuperBody.{SuperBody}
 use Rattle.rep_layout.specs.declared.place.Layout.{Layout}
@@ -55,17 +56,6 @@ returns-in-Ok-read_behind-clause-call g c =
     let both = calls g.D.Disk c.args.disk (disk_of c.find_synced.new.cells) (disk_of c.read_behind.new.cells) tt (Ok tt) first second in
     subst (λ x. Calls {T = Unit {0}} g.D.Disk c.args.disk (disk_of x.cells) (Ok tt)) (sym c.opened.ensures) both
 
-pub returns-in-Ok-read_behind-clause-opened : goal.returns-in-Ok-read_behind-clause-opened
-returns-in-Ok-read_behind-clause-opened g c =
-    let b : SuperBody = c.in-Ok-find_synced.found.0 in
-    let size : ℕ = g.D.Disk.size c.args.disk in
-    let o = c.in-Ok-read_behind.behind in
-    let e = c.in-Ok-read_behind.ensures in
-    let l : Layout = layout_of c.read_behind.new.cells in
-    let form = subst (λ d. IsSuperAt (g.D.Disk.size d) (side_of b.number) b) c.in-Ok.ensures.disk c.in-Ok-find_synced.ensures.form in
-    let is = opened_from size b l o.log o.items.items o.certifier.current o.versions form (e.layout ∙ c.relaid-cells.ensures.layout ∙ c.new-layout.ensures) e.any in
-    subst (λ x. IsOpened size x.superblock (layout_of x.cells) x.log x.items.items x.certifier.current x.versions) (sym c.opened.ensures) is
-
 -- the device once a superblock was found on it and its places are laid out: it is synced, and that superblock counts
 found :
     (g : _) (c : After-relaid-cells g) → g.D.Disk.honest c.args.disk
@@ -88,17 +78,24 @@ found g c honest =
       counts = subst (λ d. Counts (g.D.Disk.size d) (reading_of (layout_of c.in-Ok.cells) (seen (g.D.Disk.history d))) c.in-Ok-find_synced.found.0 c.in-Ok-find_synced.found.1) first (s.found there);
     }
 
-pub returns-in-Ok-read_behind-clause-recovers : goal.returns-in-Ok-read_behind-clause-recovers
-returns-in-Ok-read_behind-clause-recovers g c = λ honest.
+pub returns-in-Ok-read_behind-clause-opened : goal.returns-in-Ok-read_behind-clause-opened
+returns-in-Ok-read_behind-clause-opened g c =
     let b : SuperBody = c.in-Ok-find_synced.found.0 in
+    let size : ℕ = g.D.Disk.size c.args.disk in
     let old : History = g.D.Disk.history c.args.disk in
     let mid : History = g.D.Disk.history (disk_of c.relaid-cells.result) in
     let e = c.in-Ok-read_behind.ensures in
     let o = c.in-Ok-read_behind.behind in
-    let at = found g (goal.at.returns-in-Ok-read_behind-clause-recovers g c).After-relaid-cells honest in
-    let is = recovers_from c.pages_are_told.ensures c.found_states_stand.ensures old mid (g.D.Disk.history (disk_of c.read_behind.new.cells)) (g.D.Disk.size c.args.disk) (layout_of c.in-Ok.cells) b c.in-Ok-find_synced.found.1 o.log o.items.items o.certifier.current o.versions
-    at.synced (e.looks.same at.still) at.sized at.counts (e.found at.still (ap failed at.synced)) in
-    subst (λ x. Recovers old (g.D.Disk.history (disk_of x.cells)) x.superblock x.both x.log x.items.items x.certifier.current x.versions) (sym c.opened.ensures) is
+    let found_items : List Judged = e.found.0 in
+    let l : Layout = layout_of c.read_behind.new.cells in
+    let form = subst (λ d. IsSuperAt (g.D.Disk.size d) (side_of b.number) b) c.in-Ok.ensures.disk c.in-Ok-find_synced.ensures.form in
+    let is = opened_from size b l o.log found_items o.judging.certifier.current o.judging.versions form (e.layout ∙ c.relaid-cells.ensures.layout ∙ c.new-layout.ensures) e.found.1 in
+    let recovers : g.D.Disk.honest c.args.disk → Recovers old (g.D.Disk.history (disk_of c.read_behind.new.cells)) b c.in-Ok-find_synced.found.1 o.log found_items o.judging.certifier.current o.judging.versions = λ honest.
+    (let at = found g (goal.at.returns-in-Ok-read_behind-clause-opened g c).After-relaid-cells honest in
+    recovers_from c.pages_are_told.ensures c.found_states_stand.ensures old mid (g.D.Disk.history (disk_of c.read_behind.new.cells)) size (layout_of c.in-Ok.cells) b c.in-Ok-find_synced.found.1 o.log found_items o.judging.certifier.current o.judging.versions
+    at.synced (e.looks.same at.still) at.sized at.counts (e.found.2 at.still (ap failed at.synced))) in
+    subst (λ x. (items : List Judged) × IsOpened size x.superblock (layout_of x.cells) x.log items x.certifier.current x.versions
+    × (g.D.Disk.honest c.args.disk → Recovers old (g.D.Disk.history (disk_of x.cells)) x.superblock x.both x.log items x.certifier.current x.versions)) (sym c.opened.ensures) (found_items, is, recovers)
 
 pub returns-in-Err-read_behind-clause-refused : goal.returns-in-Err-read_behind-clause-refused
 returns-in-Err-read_behind-clause-refused g c =
