@@ -9,7 +9,7 @@ use Rattle.rep_types.specs.Entries.{Entry}
 use Rattle.rep_types.specs.Settings.{Setting, setting}
 use Rattle.rep_types.specs.Reaches.{resized, size, floor}
 use Rattle.rep_types.specs.Order.{Order, State, items_of, verdict_among, verdict_on, entries, joined, history, effects, row_in, recent, state}
-use Rattle.rep_checkpoint.specs.Coming.{blank}
+use Rattle.rep_replica.specs.Coming.{blank}
 use Rattle.rep_transfer.specs.Transfers.{Snapshot}
 use Rattle.rep_catchup.specs.Snapshots.{with_pages, state_of}
 

@@ -26,13 +26,13 @@ use Rattle.rep_pages.specs.Slots.{state_of_page}
 use Rattle.rep_cells.specs.Readings.{Reading}
 use Rattle.rep_disk.specs.declared.disk.Disk.{Ghosts}
 use Rattle.rep_forms.specs.Rows.{RowFits}
-use Rattle.rep_pool.specs.BasePages.{HasPage, IsSpelledPage}
-use Rattle.rep_engine.specs.Donating.{IsBasePage, HasNoRow}
+use Rattle.rep_replica.specs.BasePages.{HasPage, IsSpelledPage}
+use Rattle.rep_replica.specs.EngineDonating.{IsBasePage, HasNoRow}
 use Rattle.rep_steps.specs.Nodes.{Node}
 use Rattle.rep_replica.specs.Replicas.{Replica}
 use Rattle.rep_replica.specs.Holding.{Holds}
 use Rattle.rep_replica.specs.Asking.{IsAsked}
-use Rattle.rep_checkpoint.specs.Coming.{blank, with_page, is_of_page}
+use Rattle.rep_replica.specs.Coming.{blank, with_page, is_of_page}
 use Rattle.rep_transfer.specs.declared.pieces.NumberedPage.{NumberedPage}
 use Rattle.rep_transfer.specs.Pieces.{PageFits, page_bytes}
 use Rattle.rep_transfer.specs.Writing.{Wrote}

@@ -15,7 +15,7 @@ use Rattle.rep_log.specs.declared.phase.Phase.{Phase}
 use Rattle.rep_log.specs.Moves.{fault_of}
 use Rattle.rep_log.specs.Standing.{Standing as Log}
 use Rattle.rep_steps.specs.Nodes.{Node}
-use Rattle.rep_engine.specs.Reading.{halted_by}
+use Rattle.rep_replica.specs.EngineReading.{halted_by}
 use Rattle.rep_replica.specs.Replicas.{Replica}
 use Rattle.rep_replica.specs.Holding.{Holds}
 use Rattle.rep_replica.specs.Asking.{IsAsked}

@@ -32,8 +32,8 @@ use Rattle.rep_cells.specs.Readings.{Reading}
 use Rattle.rep_log.specs.Standing.{Standing as Log}
 use Rattle.rep_log.specs.Tail.{records_of}
 use Rattle.rep_steps.specs.Nodes.{Node}
-use Rattle.rep_engine.specs.Engines.{Engine}
-use Rattle.rep_engine.specs.Donating.{IsTail, TheTailIsTold, IsTailBlock, IsBlockAsSpelled}
+use Rattle.rep_replica.specs.Engines.{Engine}
+use Rattle.rep_replica.specs.EngineDonating.{IsTail, TheTailIsTold, IsTailBlock, IsBlockAsSpelled}
 use Rattle.rep_replica.specs.Replicas.{Replica}
 use Rattle.rep_replica.specs.Holding.{Holds}
 use Rattle.rep_replica.specs.Asking.{IsAsked}

@@ -33,8 +33,8 @@ use Rattle.rep_log.specs.Tail.{records_of}
 use Rattle.rep_steps.specs.Standings.{Standing}
 use Rattle.rep_steps.specs.Nodes.{Node, advanced}
 use Rattle.rep_steps.specs.Images.{AreJudgedFrom}
-use Rattle.rep_checkpoint.specs.Coming.{blank, with_page}
-use Rattle.rep_engine.specs.Engines.{durable_of}
+use Rattle.rep_replica.specs.Coming.{blank, with_page}
+use Rattle.rep_replica.specs.Engines.{durable_of}
 use Rattle.rep_replica.specs.Replicas.{Replica}
 use Rattle.rep_replica.specs.Holding.{Holds}
 use Rattle.rep_replica.specs.Asking.{IsAsked}

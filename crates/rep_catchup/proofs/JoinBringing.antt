@@ -25,16 +25,16 @@ use Rattle.rep_layout.specs.declared.super_body.SuperBody.{SuperBody}
 use Rattle.rep_layout.specs.declared.page_state.PageState.TheVariants.{Nowhere, In}
 use Rattle.rep_pages.specs.Slots.{state_of_page, spare_slot}
 use Rattle.rep_log.specs.declared.phase.Phase.{Phase}
-use Rattle.rep_checkpoint.specs.Next.{Next}
-use Rattle.rep_checkpoint.specs.Coming.{Coming, IsNewPage, blank, coming, placed, with_page}
+use Rattle.rep_replica.specs.Next.{Next}
+use Rattle.rep_replica.specs.Coming.{Coming, IsNewPage, blank, coming, placed, with_page}
 use Rattle.rep_steps.specs.Standings.{Standing, delivered}
 use Rattle.rep_steps.specs.Nodes.{Node}
 use Rattle.rep_steps.specs.Images.{IsFrontAt}
-use Rattle.rep_image.specs.Meanings.{Means}
-use Rattle.rep_engine.specs.Engines.{Engine}
-use Rattle.rep_engine.specs.Reading.{halted_by}
-use Rattle.rep_engine.specs.Installing.{MeansEither, halted_node, snapshot_of}
-use Rattle.rep_checkpoint.specs.Ascending.{ascend_push}
+use Rattle.rep_replica.specs.Meanings.{Means}
+use Rattle.rep_replica.specs.Engines.{Engine}
+use Rattle.rep_replica.specs.EngineReading.{halted_by}
+use Rattle.rep_replica.specs.EngineInstalling.{MeansEither, halted_node, snapshot_of}
+use Rattle.rep_replica.specs.Ascending.{ascend_push}
 use Rattle.rep_replica.specs.Replicas.{Replica, facts_of}
 use Rattle.rep_replica.specs.Holding.{Holds}
 use Rattle.rep_replica.specs.Settling.{is_quiet}

@@ -29,17 +29,17 @@ use Rattle.rep_cells.specs.Readings.{Reading, reading_of}
 use Rattle.rep_pages.specs.declared.page.Page.{Page as PageBody}
 use Rattle.rep_pages.specs.Images.{row_of}
 use Rattle.rep_pages.specs.Slots.{state_of_page}
-use Rattle.rep_pool.specs.BasePages.{IsBadPage, IsSpelledPage}
+use Rattle.rep_replica.specs.BasePages.{IsBadPage, IsSpelledPage}
 use Rattle.rep_log.specs.Standing.{Standing as Log}
 use Rattle.rep_log.specs.Tail.{records_of}
 use Rattle.rep_steps.specs.Standings.{Standing}
 use Rattle.rep_steps.specs.Nodes.{Node}
-use Rattle.rep_engine.specs.Engines.{Engine, durable_of}
-use Rattle.rep_engine.specs.Donating.{HasNoRow}
+use Rattle.rep_replica.specs.Engines.{Engine, durable_of}
+use Rattle.rep_replica.specs.EngineDonating.{HasNoRow}
 use Rattle.rep_replica.specs.Replicas.{Replica}
 use Rattle.rep_replica.specs.Holding.{Holds}
 use Rattle.rep_replica.specs.Asking.{IsAsked}
-use Rattle.rep_checkpoint.specs.Coming.{blank}
+use Rattle.rep_replica.specs.Coming.{blank}
 use Rattle.rep_streams.specs.Streams.{Notes}
 use Rattle.rep_transfer.specs.declared.have.Have.{Have}
 use Rattle.rep_transfer.specs.declared.pieces.NumberedPage.{NumberedPage}

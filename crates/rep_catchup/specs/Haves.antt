@@ -1,7 +1,7 @@
 -- What a node says of itself where it joins.
 use Rattle.std.specs.Prelude.{if◌then◌else◌}
 use Rattle.uuid.specs.Parts.{is_nil_bytes}
-use Rattle.rep_engine.specs.Engines.{durable_of}
+use Rattle.rep_replica.specs.Engines.{durable_of}
 use Rattle.rep_replica.specs.Replicas.{Replica}
 use Rattle.rep_transfer.specs.declared.have.Have.{Have}
 use Rattle.rep_transfer.specs.Shapes.{shape_of}

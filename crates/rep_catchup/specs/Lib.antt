@@ -4,3 +4,11 @@ pub mod Donating
 pub mod Growing
 pub mod Joining
 pub mod Orders
+pub use Rattle.rep_replica.specs.Formatting
+pub use Rattle.rep_replica.specs.Looking
+pub use Rattle.rep_replica.specs.DiskOpening
+pub use Rattle.rep_replica.specs.Engines
+pub use Rattle.rep_replica.specs.Holding
+pub use Rattle.rep_replica.specs.Opening
+pub use Rattle.rep_replica.specs.Replicas
+pub use Rattle.rep_replica.specs.Settling

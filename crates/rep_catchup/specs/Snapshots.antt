@@ -20,11 +20,11 @@ use Rattle.rep_layout.specs.declared.format.Format.{Format}
 use Rattle.rep_layout.specs.Supers.{IsNil}
 use Rattle.rep_layout.specs.Windows.{IsWindowAt, IsOfFormat}
 use Rattle.rep_pages.specs.Pages.{IsFirstRow, EndWithTheTable}
-use Rattle.rep_checkpoint.specs.Coming.{blank, with_page}
+use Rattle.rep_replica.specs.Coming.{blank, with_page}
 use Rattle.rep_steps.specs.Standings.{Standing, delivered}
 use Rattle.rep_steps.specs.Nodes.{Node}
 use Rattle.rep_steps.specs.Images.{IsFrontAt}
-use Rattle.rep_image.specs.Meanings.{Means}
+use Rattle.rep_replica.specs.Meanings.{Means}
 use Rattle.rep_replica.specs.Replicas.{Replica, facts_of}
 use Rattle.rep_replica.specs.Holding.{Holds}
 use Rattle.rep_replica.specs.Episodes.{IsStill, GaveUp as GaveUpAt, Brought as BroughtAt, Broke as BrokeAt}

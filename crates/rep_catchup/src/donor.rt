@@ -24,10 +24,9 @@ ghost use Rattle.rep_transfer.specs.Pieces.{page_bytes};
 ghost use Rattle.rep_transfer.specs.Transfers.{Snapshot, Transfer, snapshot_bytes, snapshot_part, record_part, transfer_bytes};
 
 use rep_disk::Disk;
-use rep_engine::the_tail_is_told;
 use rep_layout::{Format, LOG_BODY, WINDOW_BODY, WindowReader, row_places_are_told};
 use rep_record::BlockReader;
-use rep_replica::Replica;
+use rep_replica::{Replica, the_tail_is_told};
 use rep_streams::Sink;
 use rep_transfer::{
     Have, Header, NumberedPage, Shape, write_count, write_end, write_entry, write_front,

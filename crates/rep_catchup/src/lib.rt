@@ -13,3 +13,4 @@ pub use donor::{donate, donation_refusal};
 pub use joiner::have;
 pub use joining::join;
 pub use laws::{donated_parts_come_next, joiners_hold_the_order};
+pub use rep_replica::{Replica, format_disk};

@@ -1,7 +1,7 @@
 -- A device's failure among the refusals.
 use Rattle.std.specs.Prelude.{Result, Ok, Err}
-use Rattle.rep_types.specs.declared.refusal.Refusal.{Refusal}
-use Rattle.rep_types.specs.declared.refusal.Refusal.TheVariants.{DiskFault}
+use Rattle.rep_layout.specs.Refusal.{Refusal}
+use Rattle.rep_layout.specs.Refusal.TheVariants.{DiskFault}
 use Rattle.rep_disk.specs.declared.disk.DiskFault.{DiskFault as Fault}
 
 -- a refusal as what the device answered

@@ -4,7 +4,7 @@ ghost use Rattle.std.specs.Prelude.{◌≡◌, IfErr};
 ghost use Rattle.rep_cells.specs.Faults.{fault_of};
 
 use rep_disk::DiskFault;
-use rep_types::Refusal;
+use rep_layout::Refusal;
 
 /// What the device answered, as a refusal: `DiskFault` where it failed, and no other.
 pub fn refusal_of(answer: Result<(), DiskFault>) -> Result<(), Refusal>

@@ -10,3 +10,7 @@ pub mod Installing
 pub mod Nodes
 pub mod Arriving
 pub mod Ascending
+pub use Rattle.rep_image.specs.Bases
+pub use Rattle.rep_image.specs.Meanings
+pub use Rattle.rep_image.specs.Syncs
+pub use Rattle.rep_image.specs.Standing as ImageStanding

@@ -19,4 +19,5 @@ pub use laws::{
     the_checkpoint_is_apart, the_log_is_apart, the_old_base_or_the_snapshot,
     the_stage_is_the_facts, versions_lead_to_the_state,
 };
+pub use rep_image::{images_mean_one_thing, images_mean_what_stands, the_synced_log_is_the_facts};
 pub use stage::{NextBase, Part, Stage, Step};

@@ -24,7 +24,7 @@ use Rattle.rep_types.specs.Replies.{reply_of}
 use Rattle.rep_steps.specs.Standings.{Standing, IsStanding, underway}
 use Rattle.rep_steps.specs.Nodes.{Node, IsNode, advanced, reached}
 use Rattle.rep_steps.specs.Images.{IsFrontAt, AreJudgedFrom}
-use Rattle.rep_image.specs.Meanings.{Means}
+use Rattle.rep_checkpoint.specs.Meanings.{Means}
 use Rattle.rep_checkpoint.specs.Standing.{Standing as Checkpoint}
 use Rattle.rep_checkpoint.specs.Laws.{TheLogIsApart}
 use Rattle.rep_checkpoint.specs.Nodes.{StandsAs}

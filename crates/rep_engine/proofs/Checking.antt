@@ -33,7 +33,7 @@ use Rattle.rep_steps.specs.Moves.{Found, Moves, after, check_answer, checked as 
 use Rattle.rep_steps.specs.Nodes.{Node, Steps, NodesStayNodes, found, moved, reached, window_at}
 use Rattle.rep_steps.specs.Images.{IsFrontAt}
 use Rattle.rep_steps.specs.Judging.{JudgingGoesOn}
-use Rattle.rep_image.specs.Meanings.{Means}
+use Rattle.rep_checkpoint.specs.Meanings.{Means}
 use Rattle.rep_versions.specs.Versions.{ArePages}
 use Rattle.rep_checkpoint.specs.declared.stage.Part.{Part}
 use Rattle.rep_checkpoint.specs.declared.stage.Part.TheVariants.{Flushing, Saving, Ready, SuperFilling, SuperFilled, SuperOpening}

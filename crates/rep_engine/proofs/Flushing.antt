@@ -32,7 +32,7 @@ use Rattle.rep_steps.specs.Standings.{Standing, Stage as StageOf, HasGoal, flush
 use Rattle.rep_steps.specs.Moves.{Found, Moves, after}
 use Rattle.rep_steps.specs.Nodes.{Node, Steps, NodesStayNodes, found, moved}
 use Rattle.rep_steps.specs.Images.{IsFrontAt}
-use Rattle.rep_image.specs.Meanings.{Means}
+use Rattle.rep_checkpoint.specs.Meanings.{Means}
 use Rattle.rep_checkpoint.specs.declared.stage.Part.{Part}
 use Rattle.rep_checkpoint.specs.declared.stage.Part.TheVariants.{Flushing, Saving, Ready, SuperFilling, SuperFilled, SuperOpening}
 use Rattle.rep_checkpoint.specs.declared.stage.Stage.{Stage}

@@ -36,7 +36,7 @@ use Rattle.rep_log.specs.Moves.{fault_of, after_sync, synced_in, restarted, Rest
 use Rattle.rep_steps.specs.Standings.{Standing, Retiring}
 use Rattle.rep_steps.specs.Nodes.{Node, IsNode}
 use Rattle.rep_steps.specs.Images.{IsFrontAt, IsEndOf, Ends}
-use Rattle.rep_image.specs.Meanings.{Means}
+use Rattle.rep_checkpoint.specs.Meanings.{Means}
 use Rattle.rep_checkpoint.specs.declared.stage.Part.{Part}
 use Rattle.rep_checkpoint.specs.declared.stage.Part.TheVariants.{Flushing, Saving, Ready, SuperFilling, SuperFilled, SuperOpening}
 use Rattle.rep_checkpoint.specs.declared.stage.Stage.TheVariants.{Off}
@@ -82,7 +82,7 @@ front_alone n part image not (inr m) = absurd (not m.0)
 
 -- ---- the node where the device failed
 
-pub is_halted_node : (failures : ℕ) (n : Node) → IsNode n → IsNode (halted_node failures n)
+is_halted_node : (failures : ℕ) (n : Node) → IsNode n → IsNode (halted_node failures n)
 is_halted_node failures n h = record {
   facts = record { allowed = h.facts.allowed; undefined = h.facts.undefined; based = h.facts.based; near = h.facts.near; limit = h.facts.limit; block = h.facts.block; few = h.facts.few; started = h.facts.started; room = h.facts.room; goal = h.facts.goal };
   position = h.position;

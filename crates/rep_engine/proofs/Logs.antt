@@ -24,7 +24,7 @@ use Rattle.rep_types.specs.declared.verdict.Verdict.TheVariants.{Commit}
 use Rattle.rep_steps.specs.Moves.{Moves, after, logged}
 use Rattle.rep_steps.specs.Nodes.{Node, IsNode, Steps, cell, found, moved, NodesStayNodes}
 use Rattle.rep_steps.specs.Images.{IsFrontAt}
-use Rattle.rep_image.specs.Meanings.{Means}
+use Rattle.rep_checkpoint.specs.Meanings.{Means}
 use Rattle.rep_checkpoint.specs.Standing.{Standing as Checkpoint}
 use Rattle.rep_checkpoint.specs.Laws.{TheLogIsApart}
 use Rattle.rep_checkpoint.specs.Nodes.{StandsAs, NodesLeaveTheirFronts}

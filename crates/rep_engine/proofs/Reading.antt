@@ -35,7 +35,7 @@ use Rattle.rep_steps.specs.Standings.{Standing, read_refusal}
 use Rattle.rep_steps.specs.Moves.{Moves}
 use Rattle.rep_steps.specs.Nodes.{Node, Steps, NodesStayNodes, state_at}
 use Rattle.rep_steps.specs.Images.{AreJudgedFrom}
-use Rattle.rep_image.specs.Bases.{HaveContent}
+use Rattle.rep_checkpoint.specs.Bases.{HaveContent}
 use Rattle.rep_checkpoint.specs.Nodes.{VersionsLeadToTheState}
 use Rattle.rep_checkpoint.specs.Laws.{StableBasesAreRead}
 use Rattle.rep_engine.specs.Engines.{Engine, facts_of}

@@ -22,7 +22,7 @@ use Rattle.rep_log.specs.Laws.{MayHold}
 use Rattle.rep_steps.specs.Standings.{Stage as StageOf, underway}
 use Rattle.rep_steps.specs.Nodes.{Node, IsNode, reached}
 use Rattle.rep_steps.specs.Images.{AreJudgedFrom, IsFrontAt}
-use Rattle.rep_image.specs.Meanings.{Means}
+use Rattle.rep_checkpoint.specs.Meanings.{Means}
 use Rattle.rep_checkpoint.specs.declared.stage.Part.{Part}
 use Rattle.rep_checkpoint.specs.declared.stage.Stage.{Stage}
 use Rattle.rep_checkpoint.specs.declared.stage.Stage.TheVariants.{Toward}

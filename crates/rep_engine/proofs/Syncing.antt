@@ -18,7 +18,7 @@ use Rattle.rep_steps.specs.declared.event.Event.TheVariants.{Sync}
 use Rattle.rep_steps.specs.Standings.{Stage, Off, Toward, Retiring, Standing, HasGoal, Flushing as To_flush, Saving as To_save, Ready as To_fill, SuperFilling as To_filling, SuperFilled as To_open, SuperOpening as To_opening}
 use Rattle.rep_steps.specs.Moves.{Found, after, opening, taken, synced_phase, start_after}
 use Rattle.rep_engine.proofs.Going.{behind_more, further, with_stage, with_log}
-use Rattle.rep_image.specs.Syncs.{TheSyncedLogIsTheFacts}
+use Rattle.rep_checkpoint.specs.Syncs.{TheSyncedLogIsTheFacts}
 use Rattle.rep_checkpoint.specs.declared.stage.Part.TheVariants.{Flushing, Saving, Ready, SuperFilling, SuperFilled, SuperOpening}
 use Rattle.rep_checkpoint.specs.declared.stage.Stage.{Stage as Stages}
 use Rattle.rep_checkpoint.specs.declared.stage.Stage.TheVariants.{Off as Off_, Toward as Toward_, Retiring as Retiring_}

@@ -42,8 +42,8 @@ use Rattle.rep_steps.specs.Moves.{Found, Moves, after, opening, base_after, repl
 use Rattle.rep_steps.specs.Nodes.{Node, IsNode, Steps, NodesStayNodes, cell, found, moved, passed, gate_at}
 use Rattle.rep_steps.specs.Images.{IsFrontAt}
 use Rattle.rep_steps.specs.Judging.{JudgingGoesOn}
-use Rattle.rep_image.specs.Meanings.{Means}
-use Rattle.rep_image.specs.Syncs.{TheSyncedLogIsTheFacts}
+use Rattle.rep_checkpoint.specs.Meanings.{Means}
+use Rattle.rep_checkpoint.specs.Syncs.{TheSyncedLogIsTheFacts}
 use Rattle.rep_checkpoint.specs.declared.stage.Part.TheVariants.{Flushing, Saving, Ready, SuperFilling, SuperFilled, SuperOpening}
 use Rattle.rep_checkpoint.specs.declared.stage.Stage.{Stage as Stages}
 use Rattle.rep_checkpoint.specs.declared.stage.Stage.TheVariants.{Off, Toward, Retiring}

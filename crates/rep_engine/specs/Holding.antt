@@ -13,7 +13,7 @@ use Rattle.rep_steps.specs.declared.answer.Answer.{Answer}
 use Rattle.rep_steps.specs.declared.answer.Answer.TheVariants.{Wrote, Synced, Row, Refused}
 use Rattle.rep_steps.specs.Nodes.{Node, IsNode}
 use Rattle.rep_steps.specs.Images.{IsFrontAt, IsEndOf}
-use Rattle.rep_image.specs.Meanings.{Means}
+use Rattle.rep_checkpoint.specs.Meanings.{Means}
 use Rattle.rep_checkpoint.specs.Nodes.{StandsAs}
 use Rattle.rep_engine.specs.Engines.{Engine, facts_of}
 

@@ -24,7 +24,7 @@ use Rattle.rep_log.specs.Standing.{Standing, LogIs}
 use Rattle.rep_log.specs.Moves.{recycled, sealed_as, gated, Steps}
 use Rattle.rep_pages.specs.declared.page.Page.{Page as PageBody}
 use Rattle.rep_pages.specs.Images.{row_of}
-use Rattle.rep_image.specs.Bases.{HaveContent}
+use Rattle.rep_checkpoint.specs.Bases.{HaveContent}
 use Rattle.rep_pool.specs.BasePages.{IsPageReadable, IsBadPage, HasPage}
 
 -- There is something to write.

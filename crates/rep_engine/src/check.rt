@@ -10,7 +10,7 @@ ghost use Rattle.rep_steps.specs.declared.event.Event.TheVariants.{Check as to_c
 ghost use Rattle.rep_steps.specs.Moves.{Moves};
 ghost use Rattle.rep_steps.specs.Nodes.{Node, Steps, NodesStayNodes, window_at};
 ghost use Rattle.rep_steps.specs.Images.{IsFrontAt};
-ghost use Rattle.rep_image.specs.Meanings.{Means};
+ghost use Rattle.rep_checkpoint.specs.Meanings.{Means};
 ghost use Rattle.rep_checkpoint.specs.declared.stage.Stage.TheVariants.{Off};
 ghost use Rattle.rep_checkpoint.specs.Moves.{CanBegin};
 ghost use Rattle.rep_checkpoint.specs.Laws.{TheCheckpointIsApart, TheStageIsTheFacts};

@@ -12,7 +12,7 @@ ghost use Rattle.rep_steps.specs.Standings.{delivered, gathered, block_refusal, 
 ghost use Rattle.rep_steps.specs.Moves.{Moves};
 ghost use Rattle.rep_steps.specs.Nodes.{Node, Steps};
 ghost use Rattle.rep_steps.specs.Images.{IsFrontAt};
-ghost use Rattle.rep_image.specs.Meanings.{Means};
+ghost use Rattle.rep_checkpoint.specs.Meanings.{Means};
 ghost use Rattle.rep_engine.specs.Engines.{IsEngine, AreReadable, facts_of, phase_at, durable_of, gtid_of, Halts};
 ghost use Rattle.rep_log.specs.Standing.{due_of};
 ghost use Rattle.rep_log.specs.Moves.{after_sync, started, fault_of, SyncsLog, StartsLater};
@@ -28,9 +28,9 @@ use crate::write::write_next;
 use rep_cells::{Cells, images_read_as_allowed};
 use rep_checkpoint::{
     Checkpoint, nodes_leave_their_fronts, nodes_settle, the_log_is_apart, the_stage_is_the_facts,
+    the_synced_log_is_the_facts,
 };
 use rep_disk::Disk;
-use rep_image::the_synced_log_is_the_facts;
 use rep_log::{Log, Phase, Step};
 use rep_pool::{Pool, pools_go_on};
 use rep_record::BlockBuilder;

@@ -10,7 +10,7 @@ ghost use Rattle.rep_steps.specs.declared.event.Event.TheVariants.{Flush as to_f
 ghost use Rattle.rep_steps.specs.Moves.{Moves};
 ghost use Rattle.rep_steps.specs.Images.{IsFrontAt};
 ghost use Rattle.rep_steps.specs.Nodes.{Node, Steps};
-ghost use Rattle.rep_image.specs.Meanings.{Means};
+ghost use Rattle.rep_checkpoint.specs.Meanings.{Means};
 ghost use Rattle.rep_checkpoint.specs.Moves.{flush_refusal, position_in};
 ghost use Rattle.rep_checkpoint.specs.Calls.{IsRefused, Flushes, FlushesAsSpelled};
 ghost use Rattle.rep_engine.specs.Engines.{facts_of, Halts};

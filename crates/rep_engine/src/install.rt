@@ -10,7 +10,7 @@ ghost use Rattle.rep_log.specs.declared.phase.Phase.TheVariants.{Resting};
 ghost use Rattle.rep_log.specs.Moves.{fault_of, SyncsLog, Restarts};
 ghost use Rattle.rep_steps.specs.Nodes.{Node};
 ghost use Rattle.rep_steps.specs.Images.{IsFrontAt};
-ghost use Rattle.rep_image.specs.Meanings.{Means};
+ghost use Rattle.rep_checkpoint.specs.Meanings.{Means};
 ghost use Rattle.rep_checkpoint.specs.declared.stage.Part.TheVariants.{Flushing, SuperFilled};
 ghost use Rattle.rep_checkpoint.specs.declared.stage.Stage.TheVariants.{Off};
 ghost use Rattle.rep_checkpoint.specs.Coming.{IsDue, IsNewPage, blank, coming, gone, placed, settled, with_page};

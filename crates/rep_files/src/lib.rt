@@ -14,10 +14,12 @@ use crate::waiting::Use;
 pub use disk_file::{DiskOnFile, OnFile, disk_fault, format_file, opened_file};
 use disk_file::{disk_at, opened_to_read};
 pub use follow::follow_file;
-use rep_catchup::{donate, donation_refusal};
 use rep_reasons::{Cause, Fault, Form, Noted, OUTPUT, Text};
 use rep_saved::SavedState;
-use rep_script::{donated_text, join_text, read_saved, run_on_disk, state_text, write_have};
+use rep_service::{
+    donate, donated_text, donation_refusal, join_text, read_saved, run_on_disk, state_text,
+    write_have,
+};
 use rep_streams::{ReaderSource, WriterSink};
 use rep_transfer::{Have, read_have};
 use rep_types::Refusal;

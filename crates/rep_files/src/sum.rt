@@ -2,7 +2,7 @@
 
 use crate::disk_file::{OnFile, disk_fault, opened_to_read};
 use rep_reasons::{Fault, Noted, OUTPUT};
-use rep_script::sum_text;
+use rep_service::sum_text;
 use rep_streams::WriterSink;
 use rep_types::Refusal;
 use std::fs::{File, Files};

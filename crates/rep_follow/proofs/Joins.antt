@@ -5,7 +5,7 @@ use Rattle.std.proofs.KnownBytes.{Appends-nil}
 use Rattle.rep_types.specs.declared.key.Key.{Key}
 use Rattle.rep_types.specs.declared.refusal.Refusal.{Refusal}
 use Rattle.rep_disk.specs.declared.disk.Disk.{Ghosts}
-use Rattle.rep_engine.specs.Engines.{phase_at}
+use Rattle.rep_replica.specs.Engines.{phase_at}
 use Rattle.rep_steps.specs.declared.event.Event.TheVariants.{Read}
 use Rattle.rep_steps.specs.declared.answer.Answer.{Answer}
 use Rattle.rep_steps.specs.declared.answer.Answer.TheVariants.{Refused}

@@ -3,10 +3,10 @@ use Rattle.std.proofs.Common.{◌≡◌, refl, sym, ap, subst, ◌∙◌, ℕ, �
 use Rattle.std.proofs.Math.Seq.{take-add}
 use Rattle.std.proofs.lemmas.List.{length-drop}
 use Rattle.rep_types.specs.declared.judged.Judged.{Judged}
-use Rattle.rep_log.specs.declared.phase.Phase.{Phase}
-use Rattle.rep_log.specs.declared.phase.Phase.TheVariants.{Opening}
-use Rattle.rep_log.specs.Tail.{records_of}
-use Rattle.rep_log.specs.Laws.{MayHold}
+use Rattle.rep_steps.specs.Phase.{Phase}
+use Rattle.rep_steps.specs.Phase.TheVariants.{Opening}
+use Rattle.rep_steps.specs.Tail.{records_of}
+use Rattle.rep_steps.specs.LogLaws.{MayHold}
 use Rattle.rep_steps.specs.Standings.{underway}
 use Rattle.rep_steps.specs.Nodes.{Node, IsNode}
 use Rattle.rep_steps.specs.Images.{Ends}

@@ -4,12 +4,12 @@ use Rattle.std.proofs.Math.Seq.{take-add}
 use Rattle.rep_types.specs.declared.judged.Judged.{Judged}
 use Rattle.rep_layout.specs.declared.place.Layout.{Layout}
 use Rattle.rep_layout.specs.Places.{log_of}
-use Rattle.rep_cells.specs.States.{States}
-use Rattle.rep_log.specs.declared.phase.Phase.{Phase}
-use Rattle.rep_log.specs.declared.phase.Phase.TheVariants.{Resting, Closing, Filling, Filled, Opening}
-use Rattle.rep_log.specs.Tail.{records_of}
-use Rattle.rep_log.specs.Standing.{Standing as Log, LogIs, IsDue}
-use Rattle.rep_log.specs.Moves.{synced_in, blocks_synced}
+use Rattle.rep_steps.specs.CellStates.{States}
+use Rattle.rep_steps.specs.Phase.{Phase}
+use Rattle.rep_steps.specs.Phase.TheVariants.{Resting, Closing, Filling, Filled, Opening}
+use Rattle.rep_steps.specs.Tail.{records_of}
+use Rattle.rep_steps.specs.LogStanding.{Standing as Log, LogIs, IsDue}
+use Rattle.rep_steps.specs.LogMoves.{synced_in, blocks_synced}
 use Rattle.rep_steps.specs.Standings.{underway}
 use Rattle.rep_steps.specs.Moves.{opening, taken, synced_phase}
 use Rattle.rep_image.specs.Syncs.{left_sealed, TheSyncedLogIsTheFacts}

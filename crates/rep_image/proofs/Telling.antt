@@ -20,13 +20,13 @@ use Rattle.rep_layout.specs.Places.{side_of, layout_of}
 use Rattle.rep_layout.specs.Rows.{row_place}
 use Rattle.rep_layout.specs.Supers.{super_bytes, SuperblocksAreTold}
 use Rattle.rep_layout.specs.Windows.{Window, WindowsAreTold, beside}
-use Rattle.rep_cells.specs.Readings.{Reading, reading_of}
+use Rattle.rep_steps.specs.Readings.{Reading, reading_of}
 use Rattle.rep_pages.specs.declared.page.Page.{Page as PageBody}
 use Rattle.rep_pages.specs.Slots.{state_of_page}
 use Rattle.rep_pages.specs.Pages.{IsPageBody, PagesAreTold}
 use Rattle.rep_pages.specs.Images.{row_of}
-use Rattle.rep_log.specs.Tail.{records_of}
-use Rattle.rep_log.specs.Laws.{TheLogIsTold}
+use Rattle.rep_steps.specs.Tail.{records_of}
+use Rattle.rep_steps.specs.LogLaws.{TheLogIsTold}
 use Rattle.rep_steps.specs.Images.{Meaning}
 use Rattle.rep_image.specs.Bases.{other, IsSuperAt, IsLesser, IsChosen, HasWindow, HasContent}
 use Rattle.rep_image.specs.Meanings.{MeansBy, ImagesMeanOneThing}

@@ -11,12 +11,12 @@ use Rattle.rep_layout.specs.declared.place.Place.TheVariants.{Super, Window, Pag
 use Rattle.rep_layout.specs.Places.{side_of, layout_of}
 use Rattle.rep_layout.specs.Supers.{super_bytes}
 use Rattle.rep_layout.specs.Windows.{window_bytes, beside}
-use Rattle.rep_cells.specs.Readings.{Reading, IsPlace, reading_of}
-use Rattle.rep_cells.specs.States.{State, States, Opened, Stable, Allows, Allowed}
+use Rattle.rep_steps.specs.Readings.{Reading, IsPlace, reading_of}
+use Rattle.rep_steps.specs.CellStates.{State, States, Opened, Stable, Allows, Allowed}
 use Rattle.rep_pages.specs.Slots.{state_of_page}
-use Rattle.rep_log.specs.Tail.{IsLog}
-use Rattle.rep_log.specs.Standing.{Standing}
-use Rattle.rep_log.specs.Laws.{TheLogInEveryImage}
+use Rattle.rep_steps.specs.Tail.{IsLog}
+use Rattle.rep_steps.specs.LogStanding.{Standing}
+use Rattle.rep_steps.specs.LogLaws.{TheLogInEveryImage}
 use Rattle.rep_steps.specs.Images.{Meaning}
 use Rattle.rep_image.specs.Bases.{other, IsChosen, HasWindow, HasContent}
 use Rattle.rep_image.specs.Standing.{Stands, ImagesMeanWhatStands}

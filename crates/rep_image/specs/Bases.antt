@@ -13,7 +13,7 @@ use Rattle.rep_layout.specs.Places.{side_of, layout_of, need_of}
 use Rattle.rep_layout.specs.Rows.{row_place}
 use Rattle.rep_layout.specs.Supers.{IsSuper, super_bytes}
 use Rattle.rep_layout.specs.Windows.{window_bytes, IsWindowBody, beside}
-use Rattle.rep_cells.specs.Readings.{Reading}
+use Rattle.rep_steps.specs.Readings.{Reading}
 use Rattle.rep_pages.specs.declared.page.Page.{Page as PageBody}
 use Rattle.rep_pages.specs.Slots.{state_of_page}
 use Rattle.rep_pages.specs.Pages.{IsPageBody}

@@ -1,9 +1,9 @@
 -- Where the items end that the log of a node may hold.
 use Rattle.std.specs.Prelude.{◌≡◌, ℕ, ◌+◌, ◌-◌, ◌≤◌, List, length, take}
 use Rattle.rep_types.specs.declared.judged.Judged.{Judged}
-use Rattle.rep_log.specs.declared.phase.Phase.{Phase}
-use Rattle.rep_log.specs.Tail.{records_of}
-use Rattle.rep_log.specs.Laws.{MayHold}
+use Rattle.rep_steps.specs.Phase.{Phase}
+use Rattle.rep_steps.specs.Tail.{records_of}
+use Rattle.rep_steps.specs.LogLaws.{MayHold}
 use Rattle.rep_steps.specs.Standings.{underway}
 use Rattle.rep_steps.specs.Nodes.{Node, IsNode}
 use Rattle.rep_steps.specs.Images.{Ends}

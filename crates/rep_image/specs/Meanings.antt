@@ -5,8 +5,8 @@ use Rattle.rep_types.specs.Order.{Order, items_of, state}
 use Rattle.rep_layout.specs.declared.super_body.SuperBody.{SuperBody}
 use Rattle.rep_layout.specs.Places.{layout_of}
 use Rattle.rep_layout.specs.Supers.{IsNil}
-use Rattle.rep_cells.specs.Readings.{Reading, reading_of}
-use Rattle.rep_log.specs.Tail.{IsLog, records_of}
+use Rattle.rep_steps.specs.Readings.{Reading, reading_of}
+use Rattle.rep_steps.specs.Tail.{IsLog, records_of}
 use Rattle.rep_steps.specs.Images.{Meaning, StandsFor, AreJudgedFrom}
 use Rattle.rep_image.specs.Bases.{IsChosen, HasWindow, HasContent}
 

@@ -7,11 +7,11 @@ use Rattle.rep_layout.specs.declared.place.Place.TheVariants.{Super, Window, Pag
 use Rattle.rep_layout.specs.Places.{side_of, layout_of}
 use Rattle.rep_layout.specs.Supers.{IsNil, super_bytes}
 use Rattle.rep_layout.specs.Windows.{window_bytes, IsWindowBody, beside}
-use Rattle.rep_cells.specs.Readings.{reading_of}
-use Rattle.rep_cells.specs.States.{States, Opened, Stable, Allows, Allowed}
-use Rattle.rep_log.specs.Tail.{records_of}
-use Rattle.rep_log.specs.Standing.{Standing, LogIs}
-use Rattle.rep_log.specs.Laws.{MayHold}
+use Rattle.rep_steps.specs.Readings.{reading_of}
+use Rattle.rep_steps.specs.CellStates.{States, Opened, Stable, Allows, Allowed}
+use Rattle.rep_steps.specs.Tail.{records_of}
+use Rattle.rep_steps.specs.LogStanding.{Standing, LogIs}
+use Rattle.rep_steps.specs.LogLaws.{MayHold}
 use Rattle.rep_steps.specs.Images.{Meaning, AreJudgedFrom}
 use Rattle.rep_image.specs.Bases.{other, IsSuperAt, IsLesser, HaveContent}
 use Rattle.rep_image.specs.Meanings.{Means}

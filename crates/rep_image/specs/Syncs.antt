@@ -2,12 +2,12 @@
 use Rattle.std.specs.Prelude.{◌≡◌, ℕ, ◌+◌, List, [], take, drop}
 use Rattle.rep_types.specs.declared.judged.Judged.{Judged}
 use Rattle.rep_layout.specs.declared.place.Layout.{Layout}
-use Rattle.rep_cells.specs.States.{States}
-use Rattle.rep_log.specs.declared.phase.Phase.{Phase}
-use Rattle.rep_log.specs.declared.phase.Phase.TheVariants.{Opening}
-use Rattle.rep_log.specs.Tail.{records_of}
-use Rattle.rep_log.specs.Standing.{Standing as Log, LogIs}
-use Rattle.rep_log.specs.Moves.{blocks_synced, after_sync}
+use Rattle.rep_steps.specs.CellStates.{States}
+use Rattle.rep_steps.specs.Phase.{Phase}
+use Rattle.rep_steps.specs.Phase.TheVariants.{Opening}
+use Rattle.rep_steps.specs.Tail.{records_of}
+use Rattle.rep_steps.specs.LogStanding.{Standing as Log, LogIs}
+use Rattle.rep_steps.specs.LogMoves.{blocks_synced, after_sync}
 use Rattle.rep_steps.specs.Standings.{underway}
 use Rattle.rep_steps.specs.Moves.{opening, taken, synced_phase}
 

@@ -6,9 +6,8 @@ ghost use Rattle.rep_image.specs.Standing.{ImagesMeanWhatStands};
 ghost use Rattle.rep_image.specs.Syncs.{TheSyncedLogIsTheFacts};
 
 use rep_layout::{superblocks_are_told, windows_are_told};
-use rep_log::{the_log_in_every_image, the_log_is_told};
 use rep_pages::pages_are_told;
-use rep_steps::judged_items_extend_the_order;
+use rep_steps::{judged_items_extend_the_order, the_log_in_every_image, the_log_is_told};
 
 /// An image means one thing at most: a base and the items behind it, of one cluster and one set of
 /// parameters. So whatever opens it can find nothing else.

@@ -9,3 +9,4 @@ pub mod WindowLaws
 pub mod Places
 pub mod Rows
 pub mod GoingOn
+pub use Rattle.rep_types.specs.declared.refusal.Refusal

@@ -17,6 +17,7 @@ pub use place::{
     GATE, LOG, LOG_BODY, Layout, PAGE_BODY, Place, SUPER_BODY, Side, Slot, WINDOW_BODY, WINDOWS,
     need, places_fill_the_device, sizes_are_these, turns_are_taken,
 };
+pub use rep_types::Refusal;
 pub use rows::{RowPlace, page_of, row_at, row_places_are_told};
 pub use super_body::{SuperBody, superblocks_are_told};
 pub use window_body::WindowBody;

@@ -12,4 +12,5 @@ mod scan;
 
 pub use laws::{open_blocks_are_shown, the_log_in_every_image, the_log_is_told};
 pub use phase::{Phase, Step};
+pub use rep_record::fronts_are_determined;
 pub use ring::Log;

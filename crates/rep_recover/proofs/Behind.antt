@@ -21,7 +21,7 @@ use Rattle.rep_log.specs.Laws.{TheLogIsTold}
 use Rattle.rep_versions.specs.Versions.{Kept}
 use Rattle.rep_cert.specs.Holdings.{Holding}
 use Rattle.rep_steps.specs.Images.{AreJudgedFrom}
-use Rattle.rep_image.specs.Bases.{HasWindow}
+use Rattle.rep_engine.specs.Bases.{HasWindow}
 use Rattle.rep_recover.specs.Judging.{bare, HasJudged}
 use Rattle.rep_recover.specs.Looking.{RefusesPart, RefusesGrowing, HasBlocks, HasTail, HasBadPage}
 use Rattle.rep_recover.specs.Opening.{FailsAtLog, FailsAtPages, RefusesBehind}

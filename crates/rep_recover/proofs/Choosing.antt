@@ -13,7 +13,7 @@ use Rattle.rep_layout.specs.Places.{side_of, body_len, gate_len, offset_of, gate
 use Rattle.rep_layout.specs.Supers.{super_bytes}
 use Rattle.rep_cells.specs.Readings.{Reading}
 use Rattle.rep_cells.specs.Known.{IsReadable}
-use Rattle.rep_image.specs.Bases.{other, IsSuperAt, IsLesser}
+use Rattle.rep_engine.specs.Bases.{other, IsSuperAt, IsLesser}
 use Rattle.rep_types.specs.declared.refusal.Refusal.{Refusal}
 use Rattle.rep_types.specs.declared.refusal.Refusal.TheVariants.{NotFormatted}
 use Rattle.std.specs.Result.{result_ok}

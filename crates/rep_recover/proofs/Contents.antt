@@ -33,7 +33,7 @@ use Rattle.rep_pages.specs.Pages.{IsPageBody, PagesAreTold}
 use Rattle.rep_pages.specs.Images.{row_of}
 use Rattle.rep_steps.specs.Nodes.{reached, advanced}
 use Rattle.rep_steps.specs.Images.{AreJudgedFrom}
-use Rattle.rep_image.specs.Bases.{HasContent}
+use Rattle.rep_engine.specs.Bases.{HasContent}
 use Rattle.rep_recover.specs.Judging.{base_with}
 use Rattle.rep_recover.specs.Looking.{HasPage, HasPages}
 use Rattle.rep_recover.specs.Opening.{names_rows}

@@ -16,8 +16,8 @@ use Rattle.rep_layout.specs.Supers.{super_bytes, SuperblocksAreTold}
 use Rattle.rep_layout.specs.Windows.{Window, beside, WindowsAreTold}
 use Rattle.rep_cells.specs.Readings.{Reading, reading_of}
 use Rattle.rep_steps.specs.Images.{Meaning, AreJudgedFrom}
-use Rattle.rep_image.specs.Bases.{other, IsSuperAt, IsLesser, IsChosen, HasWindow}
-use Rattle.rep_image.specs.Meanings.{Means, MeansBy}
+use Rattle.rep_engine.specs.Bases.{other, IsSuperAt, IsLesser, IsChosen, HasWindow}
+use Rattle.rep_engine.specs.Meanings.{Means, MeansBy}
 use Rattle.rep_recover.specs.Judging.{bare, base_with}
 use Rattle.rep_recover.specs.Looking.{HasBadSuper, HasTail}
 use Rattle.rep_recover.specs.Opening.{without_log, FailsBehind, HasFault, IsReason, ReasonsExcludeMeanings}

@@ -22,9 +22,9 @@ use Rattle.rep_log.specs.Standing.{Standing, LogIs, AtRest}
 use Rattle.rep_log.specs.Tail.{records_of}
 use Rattle.rep_log.specs.Laws.{MayHold}
 use Rattle.rep_steps.specs.Images.{Meaning, StandsFor, AreJudgedFrom}
-use Rattle.rep_image.specs.Bases.{IsLesser}
-use Rattle.rep_image.specs.Meanings.{Means}
-use Rattle.rep_image.specs.Standing.{Stands, ImagesMeanWhatStands, with_blocks}
+use Rattle.rep_engine.specs.Bases.{IsLesser}
+use Rattle.rep_engine.specs.Meanings.{Means}
+use Rattle.rep_engine.specs.ImageStanding.{Stands, ImagesMeanWhatStands, with_blocks}
 use Rattle.rep_recover.specs.Formatting.{first_super, first_window, HasFirst, ImagesStandFor}
 
 -- nothing was delivered

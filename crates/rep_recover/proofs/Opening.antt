@@ -17,8 +17,8 @@ use Rattle.rep_versions.specs.Versions.{Kept}
 use Rattle.rep_cert.specs.Holdings.{Holding}
 use Rattle.rep_pages.specs.Pages.{PagesAreTold}
 use Rattle.rep_steps.specs.Images.{Meaning}
-use Rattle.rep_image.specs.Bases.{IsSuperAt, IsChosen}
-use Rattle.rep_image.specs.Meanings.{MeansBy}
+use Rattle.rep_engine.specs.Bases.{IsSuperAt, IsChosen}
+use Rattle.rep_engine.specs.Meanings.{MeansBy}
 use Rattle.rep_recover.specs.Judging.{bare, base_with}
 use Rattle.rep_recover.specs.Looking.{Counts, HasBadSuper, HasNoSuper, RefusesSupers}
 use Rattle.rep_recover.specs.Opening.{without_log, FailsBehind, IsCorruptIn, IsReason, IsOfBytes, IsBehind, StandsBehind, RefusesBehind, IsOpened, Recovers, RefusesToOpen}

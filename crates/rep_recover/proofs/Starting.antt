@@ -26,13 +26,13 @@ use Rattle.rep_cert.specs.Holdings.{Holding, IsAskable, window_of}
 use Rattle.rep_steps.specs.Standings.{HasGoal, Off as is_off, Retiring as is_retiring}
 use Rattle.rep_steps.specs.Nodes.{Node, window_at, reached}
 use Rattle.rep_steps.specs.Images.{Meaning, IsOpening, OpeningsOpenTheOrder}
-use Rattle.rep_checkpoint.specs.declared.stage.Part.{Part}
-use Rattle.rep_checkpoint.specs.declared.stage.Stage.TheVariants.{Off, Toward, Retiring}
-use Rattle.rep_checkpoint.specs.Next.{Next}
-use Rattle.rep_checkpoint.specs.Standing.{Standing, IsGoing, stage_of}
-use Rattle.rep_checkpoint.specs.Moves.{stage_found, found_at}
-use Rattle.rep_checkpoint.specs.Laws.{HasBase, TheBaseIsFound}
-use Rattle.rep_checkpoint.specs.Nodes.{StandsAs, NodesLeaveTheirFronts}
+use Rattle.rep_engine.specs.Part.{Part}
+use Rattle.rep_engine.specs.Stage.TheVariants.{Off, Toward, Retiring}
+use Rattle.rep_engine.specs.Next.{Next}
+use Rattle.rep_engine.specs.CheckpointStanding.{Standing, IsGoing, stage_of}
+use Rattle.rep_engine.specs.CheckpointMoves.{stage_found, found_at}
+use Rattle.rep_engine.specs.CheckpointLaws.{HasBase, TheBaseIsFound}
+use Rattle.rep_engine.specs.Nodes.{StandsAs, NodesLeaveTheirFronts}
 use Rattle.rep_engine.specs.Engines.{Engine, IsEngine, IsWhole, HasItemsBehind, facts_of, durable_of}
 use Rattle.rep_engine.specs.Holding.{Stands as Runs}
 use Rattle.rep_recover.specs.Opening.{IsOpened, Recovers}

@@ -12,7 +12,7 @@ use Rattle.rep_layout.specs.declared.place.Place.TheVariants.{Super, Window, Log
 use Rattle.rep_layout.specs.Windows.{Window as WindowBody, window}
 use Rattle.rep_cells.specs.States.{State, States, Closed, synced}
 use Rattle.rep_steps.specs.Images.{Meaning, StandsFor}
-use Rattle.rep_image.specs.Meanings.{Means}
+use Rattle.rep_engine.specs.Meanings.{Means}
 
 -- the state UUID of a node that is formatted with this one: the nil UUID, where it is given none
 abbrev pub uuid_of : Option (List ℕ) → List ℕ

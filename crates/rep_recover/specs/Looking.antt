@@ -24,7 +24,7 @@ use Rattle.rep_pages.specs.declared.page.Page.{Page as PageBody}
 use Rattle.rep_pages.specs.Slots.{state_of_page}
 use Rattle.rep_pages.specs.Pages.{IsPageBody}
 use Rattle.rep_steps.specs.Images.{AreJudgedFrom}
-use Rattle.rep_image.specs.Bases.{other, IsSuperAt, IsChosen}
+use Rattle.rep_engine.specs.Bases.{other, IsSuperAt, IsChosen}
 use Rattle.rep_recover.specs.Judging.{bare}
 
 -- Calls that write nothing: on an honest device nothing happened.

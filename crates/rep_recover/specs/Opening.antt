@@ -29,8 +29,8 @@ use Rattle.rep_versions.specs.Following.{AreVersionsOf, effect_of}
 use Rattle.rep_cert.specs.Holdings.{Holding, IsAskable, window_of}
 use Rattle.rep_steps.specs.Nodes.{reached}
 use Rattle.rep_steps.specs.Images.{Meaning}
-use Rattle.rep_image.specs.Bases.{other, IsSuperAt, IsChosen, HasWindow}
-use Rattle.rep_image.specs.Meanings.{Means, MeansBy}
+use Rattle.rep_engine.specs.Bases.{other, IsSuperAt, IsChosen, HasWindow}
+use Rattle.rep_engine.specs.Meanings.{Means, MeansBy}
 use Rattle.rep_engine.specs.Checking.{HoldsWindows}
 use Rattle.rep_recover.specs.Judging.{bare, HasJudged}
 use Rattle.rep_recover.specs.Looking.{HasBadSuper, HasNoSuper, HasTail, HasPages, HasBadPage}

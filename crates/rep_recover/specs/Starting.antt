@@ -15,11 +15,11 @@ use Rattle.rep_log.specs.Standing.{Standing as Log}
 use Rattle.rep_cert.specs.Holdings.{Holding, IsAskable, window_of}
 use Rattle.rep_steps.specs.Nodes.{Node, window_at}
 use Rattle.rep_steps.specs.Images.{Meaning, opened, OpensTheOrder}
-use Rattle.rep_image.specs.Bases.{IsSuperAt}
-use Rattle.rep_image.specs.Meanings.{Means}
-use Rattle.rep_checkpoint.specs.declared.stage.Stage.TheVariants.{Off, Retiring}
-use Rattle.rep_checkpoint.specs.Standing.{spare_side}
-use Rattle.rep_checkpoint.specs.Moves.{stage_found, found_at}
+use Rattle.rep_engine.specs.Bases.{IsSuperAt}
+use Rattle.rep_engine.specs.Meanings.{Means}
+use Rattle.rep_engine.specs.Stage.TheVariants.{Off, Retiring}
+use Rattle.rep_engine.specs.CheckpointStanding.{spare_side}
+use Rattle.rep_engine.specs.CheckpointMoves.{stage_found, found_at}
 use Rattle.rep_engine.specs.Engines.{Engine, facts_of, durable_of}
 use Rattle.rep_engine.specs.Holding.{Holds}
 use Rattle.rep_recover.specs.Opening.{IsOpened}

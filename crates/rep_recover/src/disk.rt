@@ -5,8 +5,8 @@ ghost use Rattle.rep_disk.specs.History.{seen};
 ghost use Rattle.rep_disk.specs.Devices.{Calls};
 ghost use Rattle.rep_layout.specs.Places.{need_of};
 ghost use Rattle.rep_cells.specs.Device.{disk_of, layout_of};
-ghost use Rattle.rep_pool.specs.BasePages.{IsPooled};
-ghost use Rattle.rep_checkpoint.specs.Moves.{found_at};
+ghost use Rattle.rep_engine.specs.BasePages.{IsPooled};
+ghost use Rattle.rep_engine.specs.CheckpointMoves.{found_at};
 ghost use Rattle.rep_engine.specs.Engines.{IsEngine};
 ghost use Rattle.rep_recover.specs.Starting.{engine_of, IsStart, OpensNode};
 ghost use Rattle.rep_recover.specs.Opening.{without_log, RefusesToOpen, IsUnwritten};
@@ -15,10 +15,10 @@ ghost use Rattle.rep_recover.specs.Looking.{fault_in};
 use crate::open::{Opened, read_disk};
 use rep_cells::images_read_as_allowed;
 use rep_cert::Certifier;
-use rep_checkpoint::{Checkpoint, nodes_leave_their_fronts, the_base_is_found};
 use rep_disk::Disk;
-use rep_engine::Engine;
-use rep_pool::{Pool, pools_go_on};
+use rep_engine::{
+    Checkpoint, Engine, Pool, nodes_leave_their_fronts, pools_go_on, the_base_is_found,
+};
 use rep_steps::openings_open_the_order;
 use rep_types::Refusal;
 use std::alloc::Global;

@@ -16,8 +16,8 @@ ghost use Rattle.rep_recover.specs.Formatting.{uuid_of, first_super, first_windo
 use arrayvec::ArrayVec;
 use rep_cells::{Cells, images_read_as_allowed, refusal_of, syncs_narrow};
 use rep_disk::{Disk, DiskFault};
+use rep_engine::images_mean_what_stands;
 use rep_forms::put_bytes;
-use rep_image::images_mean_what_stands;
 use rep_layout::{
     Format, Layout, PageState, Place, SUPER_BODY, Side, SuperBody, WINDOW_BODY, WindowBody,
 };

@@ -10,7 +10,7 @@ ghost use Rattle.rep_layout.specs.Supers.{IsSuper};
 ghost use Rattle.rep_cells.specs.Device.{disk_of, layout_of};
 ghost use Rattle.rep_cells.specs.Readings.{reading_of};
 ghost use Rattle.rep_log.specs.Moves.{fault_of};
-ghost use Rattle.rep_image.specs.Bases.{IsSuperAt};
+ghost use Rattle.rep_engine.specs.Bases.{IsSuperAt};
 ghost use Rattle.rep_recover.specs.Looking.{Looks, fault_in, Counts, HasNoSuper, HasBadSuper, RefusesSupers};
 ghost use Rattle.rep_recover.specs.Opening.{without_log, FailsBehind, IsBehind, StandsBehind, RefusesBehind, IsOpened, Recovers, RefusesToOpen, IsUnwritten};
 

@@ -7,7 +7,7 @@ ghost use Rattle.rep_layout.specs.Places.{side_of, layout_of as layout_with, nee
 ghost use Rattle.rep_layout.specs.Supers.{IsSuper, super_bytes};
 ghost use Rattle.rep_cells.specs.Device.{disk_of, layout_of};
 ghost use Rattle.rep_cells.specs.Readings.{reading_of};
-ghost use Rattle.rep_image.specs.Bases.{IsSuperAt};
+ghost use Rattle.rep_engine.specs.Bases.{IsSuperAt};
 ghost use Rattle.rep_recover.specs.Looking.{Looks, RefusesPart, RefusesSupers, IsNoSuper, HasBadSuper, HasNoSuper, Counts, chosen};
 
 use rep_cells::Cells;

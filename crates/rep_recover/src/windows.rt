@@ -7,7 +7,7 @@ ghost use Rattle.rep_disk.specs.History.{seen, failed};
 ghost use Rattle.rep_layout.specs.Windows.{IsWindowBody, window_bytes, beside};
 ghost use Rattle.rep_cells.specs.Device.{disk_of, layout_of};
 ghost use Rattle.rep_cells.specs.Readings.{reading_of};
-ghost use Rattle.rep_image.specs.Bases.{HasWindow};
+ghost use Rattle.rep_engine.specs.Bases.{HasWindow};
 ghost use Rattle.rep_recover.specs.Looking.{Looks, RefusesGrowing, IsNoWindow};
 
 use rep_cells::Cells;

@@ -10,15 +10,14 @@ use Rattle.rep_disk.specs.History.{IsImage}
 use Rattle.rep_disk.specs.Leaving.{leaves_none}
 use Rattle.rep_log.specs.declared.phase.Phase.{Phase}
 use Rattle.rep_steps.specs.Standings.{Standing}
-use Rattle.rep_steps.specs.Nodes.{Node}
+use Rattle.rep_steps.specs.Nodes.{Node, IsNode}
 use Rattle.rep_steps.specs.Parts.{part_of}
 use Rattle.rep_steps.specs.Images.{IsFrontAt}
-use Rattle.rep_image.specs.Meanings.{Means}
-use Rattle.rep_engine.specs.Engines.{phase_at, facts_of as engine_facts}
-use Rattle.rep_engine.specs.Holding.{Holds as EngineHolds}
-use Rattle.rep_engine.specs.Installing.{halted_at, halted_node}
-use Rattle.rep_engine.specs.Reading.{halted_by}
-use Rattle.rep_engine.proofs.Installing.{is_halted_node}
+use Rattle.rep_recover.specs.Meanings.{Means}
+use Rattle.rep_recover.specs.Engines.{phase_at, facts_of as engine_facts}
+use Rattle.rep_recover.specs.Holding.{Holds as EngineHolds}
+use Rattle.rep_recover.specs.Installing.{halted_at, halted_node}
+use Rattle.rep_recover.specs.Reading.{halted_by}
 use Rattle.rep_replica.specs.Replicas.{Replica, facts_of}
 use Rattle.rep_replica.specs.Holding.{Holds}
 use Rattle.rep_replica.specs.Donating.{Asks}
@@ -26,6 +25,15 @@ use Rattle.rep_replica.specs.Episodes.{GaveUp}
 use Rattle.rep_replica.specs.Asking.{IsAsked, AsksAreGivenUp}
 
 -- ---- the device failed
+
+-- what a node is bounded by does not speak of the device
+is_halted_node : (failures : ℕ) (n : Node) → IsNode n → IsNode (halted_node failures n)
+is_halted_node failures n h = record {
+  facts = record { allowed = h.facts.allowed; undefined = h.facts.undefined; based = h.facts.based; near = h.facts.near; limit = h.facts.limit; block = h.facts.block; few = h.facts.few; started = h.facts.started; room = h.facts.room; goal = h.facts.goal };
+  position = h.position;
+  enough = h.enough;
+  ahead = h.ahead;
+}
 
 -- a front of a node is one of the node whose device failed
 front_halted : (failures : ℕ) (n : Node) (image : List ℕ) → IsFrontAt Means n image → IsFrontAt Means (halted_node failures n) image

@@ -27,9 +27,9 @@ use Rattle.rep_steps.specs.Nodes.{Node, Steps, NodesStayNodes, reached, found, v
 use Rattle.rep_steps.specs.Parts.{with_ahead, part_of}
 use Rattle.rep_steps.specs.Images.{AreJudgedFrom}
 use Rattle.rep_steps.specs.Judging.{JudgingGoesOn, VerdictsHaveAPlace}
-use Rattle.rep_engine.specs.Engines.{Engine, facts_of as engine_facts}
-use Rattle.rep_engine.specs.Holding.{Holds as EngineHolds}
-use Rattle.rep_engine.specs.Checking.{CertifiersHoldWindows}
+use Rattle.rep_recover.specs.Engines.{Engine, facts_of as engine_facts}
+use Rattle.rep_recover.specs.Holding.{Holds as EngineHolds}
+use Rattle.rep_recover.specs.Checking.{CertifiersHoldWindows}
 use Rattle.rep_record.specs.Records.{is_placed}
 use Rattle.rep_replica.proofs.Judging.{Judges, judges_as}
 use Rattle.rep_replica.proofs.Placing.{placed_more}

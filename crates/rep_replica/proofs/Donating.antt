@@ -18,9 +18,9 @@ use Rattle.rep_log.specs.Standing.{Standing as Log}
 use Rattle.rep_steps.specs.Standings.{Standing}
 use Rattle.rep_steps.specs.Nodes.{Node}
 use Rattle.rep_steps.specs.Parts.{with_ahead, part_of}
-use Rattle.rep_engine.specs.Engines.{Engine, facts_of as engine_facts}
-use Rattle.rep_engine.specs.Holding.{Holds as EngineHolds}
-use Rattle.rep_engine.specs.Donating.{Asks as EngineAsks, IsTailBlock, IsBlockAsSpelled, IsWindowAsSpelled, IsBasePageAsSpelled}
+use Rattle.rep_recover.specs.Engines.{Engine, facts_of as engine_facts}
+use Rattle.rep_recover.specs.Holding.{Holds as EngineHolds}
+use Rattle.rep_recover.specs.Donating.{Asks as EngineAsks, IsTailBlock, IsBlockAsSpelled, IsWindowAsSpelled, IsBasePageAsSpelled}
 use Rattle.rep_replica.specs.Replicas.{Replica, facts_of}
 use Rattle.rep_replica.specs.Holding.{Holds}
 use Rattle.rep_replica.specs.Donating.{Asks}

@@ -21,7 +21,7 @@ use Rattle.rep_steps.specs.Nodes.{Node, IsNode}
 use Rattle.rep_steps.specs.Orders.{IsOf, NodesHoldTheOrder, StepsFollowTheOrder}
 use Rattle.rep_steps.specs.Runs.{accepted_by, acknowledged, RunsComeTo, RunsAnswerTheOrder}
 use Rattle.rep_steps.specs.Images.{StandsFor, IsFrontAt, IsFrontOf, FrontsStandForTheOrder}
-use Rattle.rep_image.specs.Meanings.{Means, ImagesMeanOneThing}
+use Rattle.rep_recover.specs.Meanings.{Means, ImagesMeanOneThing}
 use Rattle.rep_steps.specs.FrontLaws.{front_longer, front_older}
 use Rattle.rep_replica.specs.Replicas.{Replica, facts_of}
 use Rattle.rep_replica.specs.Running.{Ran}

@@ -19,10 +19,10 @@ use Rattle.rep_steps.specs.Nodes.{Node, Steps, NodesOutlastFailures}
 use Rattle.rep_steps.specs.Orders.{IsOf, StepsFollowTheOrder}
 use Rattle.rep_steps.specs.Parts.{part_of}
 use Rattle.rep_steps.specs.Images.{IsFrontAt}
-use Rattle.rep_image.specs.Meanings.{Means}
-use Rattle.rep_checkpoint.specs.Nodes.{StandsAs}
-use Rattle.rep_engine.specs.Engines.{Engine}
-use Rattle.rep_engine.specs.Holding.{Stands, Holds as EngineHolds, row}
+use Rattle.rep_recover.specs.Meanings.{Means}
+use Rattle.rep_recover.specs.Nodes.{StandsAs}
+use Rattle.rep_recover.specs.Engines.{Engine}
+use Rattle.rep_recover.specs.Holding.{Stands, Holds as EngineHolds, row}
 use Rattle.rep_replica.specs.Replicas.{Replica}
 use Rattle.rep_replica.specs.Holding.{Holds, IsStep}
 use Rattle.rep_replica.specs.Reading.{IsRead, running, HasRowsOf, ReadsForgetNothing}

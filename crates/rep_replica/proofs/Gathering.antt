@@ -13,9 +13,9 @@ use Rattle.rep_steps.specs.Nodes.{Node, reached, window_at}
 use Rattle.rep_steps.specs.Parts.{with_ahead, part_of}
 use Rattle.rep_steps.specs.Images.{AreJudgedFrom}
 use Rattle.rep_steps.specs.Judging.{JudgingGoesOn}
-use Rattle.rep_engine.specs.Engines.{Engine, facts_of as engine_facts}
-use Rattle.rep_engine.specs.Accepting.{accepted_in, AddsItems, AcceptedItemsAreAFront}
-use Rattle.rep_engine.specs.Holding.{Holds as EngineHolds, with_items}
+use Rattle.rep_recover.specs.Engines.{Engine, facts_of as engine_facts}
+use Rattle.rep_recover.specs.Accepting.{accepted_in, AddsItems, AcceptedItemsAreAFront}
+use Rattle.rep_recover.specs.Holding.{Holds as EngineHolds, with_items}
 use Rattle.rep_replica.specs.Replicas.{Replica, facts_of}
 use Rattle.rep_replica.specs.Refusing.{Gathers, taken_next}
 use Rattle.rep_replica.specs.Holding.{Holds}

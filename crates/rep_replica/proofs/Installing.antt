@@ -28,17 +28,17 @@ use Rattle.rep_steps.specs.Moves.{is_off}
 use Rattle.rep_steps.specs.Nodes.{Node, window_at, reached}
 use Rattle.rep_steps.specs.Parts.{part_of}
 use Rattle.rep_steps.specs.Images.{Meaning, IsFrontAt, AreJudgedFrom}
-use Rattle.rep_image.specs.Meanings.{Means}
-use Rattle.rep_checkpoint.specs.declared.stage.Part.TheVariants.{SuperOpening}
-use Rattle.rep_checkpoint.specs.declared.stage.Stage.{Stage}
-use Rattle.rep_checkpoint.specs.declared.stage.Stage.TheVariants.{Off, Toward, Retiring}
-use Rattle.rep_checkpoint.specs.Standing.{stage_in}
-use Rattle.rep_checkpoint.specs.Coming.{coming}
-use Rattle.rep_checkpoint.specs.Arriving.{installed}
-use Rattle.rep_engine.specs.Engines.{Engine, facts_of as engine_facts, durable_of, phase_at, Halts}
-use Rattle.rep_engine.specs.Holding.{Holds as EngineHolds}
-use Rattle.rep_engine.specs.Checking.{CertifiersHoldWindows, HoldsWindows}
-use Rattle.rep_engine.specs.Installing.{CanBring, IsBeside, IsTaken, HoldsEither, MeansEither, TakesPlace, snapshot_of}
+use Rattle.rep_recover.specs.Meanings.{Means}
+use Rattle.rep_recover.specs.Part.TheVariants.{SuperOpening}
+use Rattle.rep_recover.specs.Stage.{Stage}
+use Rattle.rep_recover.specs.Stage.TheVariants.{Off, Toward, Retiring}
+use Rattle.rep_recover.specs.CheckpointStanding.{stage_in}
+use Rattle.rep_recover.specs.Coming.{coming}
+use Rattle.rep_recover.specs.Arriving.{installed}
+use Rattle.rep_recover.specs.Engines.{Engine, facts_of as engine_facts, durable_of, phase_at, Halts}
+use Rattle.rep_recover.specs.Holding.{Holds as EngineHolds}
+use Rattle.rep_recover.specs.Checking.{CertifiersHoldWindows, HoldsWindows}
+use Rattle.rep_recover.specs.Installing.{CanBring, IsBeside, IsTaken, HoldsEither, MeansEither, TakesPlace, snapshot_of}
 use Rattle.rep_replica.specs.Replicas.{Replica, IsReplica, GoOn, facts_of}
 use Rattle.rep_replica.specs.Refusing.{TellsFaults}
 use Rattle.rep_replica.specs.Holding.{Holds}

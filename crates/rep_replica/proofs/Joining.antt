@@ -1,7 +1,7 @@
 -- Runs of a replica one after another are one run.
 use Rattle.rep_disk.specs.declared.disk.Disk.{Ghosts}
 use Rattle.rep_steps.specs.Joining.{RunsAreJoined as NodesRunsAreJoined}
-use Rattle.rep_image.specs.Meanings.{Means}
+use Rattle.rep_recover.specs.Meanings.{Means}
 use Rattle.rep_replica.specs.Running.{RunsAreJoined}
 
 pub runs_joined : {D : Type 0} (g : Ghosts D) → NodesRunsAreJoined Means → RunsAreJoined g

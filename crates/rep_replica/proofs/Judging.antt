@@ -10,7 +10,7 @@ use Rattle.rep_disk.specs.declared.disk.Disk.{Ghosts}
 use Rattle.rep_cert.specs.Holdings.{Holding, IsAskable, window_of, verdict_of}
 use Rattle.rep_steps.specs.Standings.{Standing, delivered}
 use Rattle.rep_steps.specs.Nodes.{Node, reached, window_at, verdict_for}
-use Rattle.rep_engine.specs.Engines.{facts_of as engine_facts}
+use Rattle.rep_recover.specs.Engines.{facts_of as engine_facts}
 use Rattle.rep_replica.specs.Replicas.{Replica, facts_of, IsReplica}
 use Rattle.rep_replica.specs.Holding.{Holds}
 

@@ -13,7 +13,7 @@ use Rattle.rep_steps.specs.declared.answer.Answer.{Answer}
 use Rattle.rep_steps.specs.declared.answer.Answer.TheVariants.{Refused}
 use Rattle.rep_steps.specs.Standings.{Standing, delivered, refusal}
 use Rattle.rep_steps.specs.Moves.{Found, Moves, Fails, MeetsCorruption, answer, after, opening}
-use Rattle.rep_engine.specs.Accepting.{ComeNext}
+use Rattle.rep_recover.specs.Accepting.{ComeNext}
 use Rattle.rep_replica.proofs.Placing.{placed_drop}
 use Rattle.rep_replica.specs.Replicas.{Replica, IsReplica}
 use Rattle.rep_steps.specs.Judging.{JudgingGoesOn}

@@ -28,7 +28,7 @@ use Rattle.rep_steps.specs.Nodes.{Node, IsNode, Steps, found, moved}
 use Rattle.rep_steps.specs.Orders.{IsOf, accepted, answer_of, NodesHoldTheOrder, StepsFollowTheOrder}
 use Rattle.rep_steps.specs.Runs.{Runs, accepted_by, verdicts, acknowledged, verdict_of, ComesTo, AnswersOf, RunsComeTo, RunsAnswerTheOrder}
 use Rattle.rep_steps.specs.Images.{StandsFor, opened, IsFrontOf}
-use Rattle.rep_image.specs.Meanings.{Means, ImagesMeanOneThing}
+use Rattle.rep_recover.specs.Meanings.{Means, ImagesMeanOneThing}
 use Rattle.rep_steps.specs.FrontLaws.{front_longer}
 use Rattle.rep_replica.specs.Replicas.{Replica, facts_of}
 use Rattle.rep_replica.specs.Holding.{Holds}

@@ -19,8 +19,8 @@ use Rattle.rep_steps.specs.declared.event.Event.{Event}
 use Rattle.rep_steps.specs.declared.event.Event.TheVariants.{Log as to_log, Sync, Check}
 use Rattle.rep_steps.specs.Standings.{Standing, refusal_here, log_refusal, check_refusal, gathered, Flushing, Off, Toward}
 use Rattle.rep_steps.specs.Moves.{Found, after, checked, opening}
-use Rattle.rep_engine.specs.Engines.{IsEngine, IsWhole, HasAll, phase_at, durable_of}
-use Rattle.rep_engine.specs.Writing.{IsWrite, written_in}
+use Rattle.rep_recover.specs.Engines.{IsEngine, IsWhole, HasAll, phase_at, durable_of}
+use Rattle.rep_recover.specs.Writing.{IsWrite, written_in}
 use Rattle.rep_replica.specs.Replicas.{Replica, ArePlaced, facts_of}
 use Rattle.rep_replica.specs.Settling.{IsRunning, log_event, due_at, due, start_of, Rests, left_at_rest, left_in, work_of}
 use Rattle.rep_replica.specs.Committing.{is_full_in, is_full, LeavesRoom}

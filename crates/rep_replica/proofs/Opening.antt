@@ -9,8 +9,8 @@ use Rattle.rep_steps.specs.Standings.{Standing}
 use Rattle.rep_steps.specs.Nodes.{Node}
 use Rattle.rep_steps.specs.Parts.{with_ahead, part_of}
 use Rattle.rep_steps.specs.Images.{OpensTheOrder}
-use Rattle.rep_engine.specs.Engines.{Engine, facts_of as engine_facts}
-use Rattle.rep_engine.specs.Holding.{Holds as EngineHolds}
+use Rattle.rep_recover.specs.Engines.{Engine, facts_of as engine_facts}
+use Rattle.rep_recover.specs.Holding.{Holds as EngineHolds}
 use Rattle.rep_recover.specs.Starting.{IsStart, OpensNode, node_of}
 use Rattle.rep_replica.specs.Replicas.{Replica, facts_of}
 use Rattle.rep_replica.specs.Opening.{Opens}

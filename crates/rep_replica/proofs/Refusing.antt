@@ -13,10 +13,10 @@ use Rattle.rep_steps.specs.declared.event.Event.TheVariants.{Deliver, SetWindow,
 use Rattle.rep_steps.specs.declared.answer.Answer.TheVariants.{Wrote, Refused}
 use Rattle.rep_steps.specs.Standings.{Standing, refusal}
 use Rattle.rep_steps.specs.Moves.{Moves, Fails, MeetsCorruption}
-use Rattle.rep_engine.specs.Engines.{Engine, facts_of as engine_facts, Halts}
-use Rattle.rep_engine.specs.Holding.{wrote, synced, row}
-use Rattle.rep_engine.specs.Checking.{checked}
-use Rattle.rep_engine.specs.Writing.{written_in}
+use Rattle.rep_recover.specs.Engines.{Engine, facts_of as engine_facts, Halts}
+use Rattle.rep_recover.specs.Holding.{wrote, synced, row}
+use Rattle.rep_recover.specs.Checking.{checked}
+use Rattle.rep_recover.specs.Writing.{written_in}
 use Rattle.rep_replica.specs.Replicas.{Replica}
 use Rattle.rep_replica.specs.Refusing.{Gathers, LeavesFault, IsLeft, RefusesUnchanged}
 use Rattle.rep_replica.specs.Spelling.{FlushIsSpelled, ReadIsSpelled, Spells}

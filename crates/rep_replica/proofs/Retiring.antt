@@ -18,7 +18,7 @@ use Rattle.rep_steps.specs.Moves.{Moves, Fails, answer, checked}
 use Rattle.rep_steps.specs.Nodes.{Node, Steps, found, moved}
 use Rattle.rep_steps.specs.FactLaws.{after_serves}
 use Rattle.rep_steps.specs.Images.{IsFrontAt}
-use Rattle.rep_image.specs.Meanings.{Means}
+use Rattle.rep_recover.specs.Meanings.{Means}
 use Rattle.rep_replica.specs.Replicas.{Replica, facts_of}
 use Rattle.rep_replica.specs.Holding.{Holds, IsStep}
 use Rattle.rep_replica.specs.Refusing.{IsFaultToldBy, TellsFaults}

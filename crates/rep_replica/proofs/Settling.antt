@@ -14,7 +14,7 @@ use Rattle.rep_disk.specs.History.{History, seen}
 use Rattle.rep_layout.specs.declared.place.Layout.{Layout}
 use Rattle.rep_layout.specs.declared.super_body.SuperBody.{SuperBody}
 use Rattle.rep_cells.specs.Readings.{reading_of}
-use Rattle.rep_pool.specs.BasePages.{IsBadPage}
+use Rattle.rep_recover.specs.BasePages.{IsBadPage}
 use Rattle.rep_log.specs.declared.phase.Phase.{Phase}
 use Rattle.rep_log.specs.declared.phase.Phase.TheVariants.{Resting}
 use Rattle.rep_steps.specs.declared.event.Event.{Event}
@@ -25,7 +25,7 @@ use Rattle.rep_steps.specs.Standings.{Standing, refusal, refusal_here, check_ref
 use Rattle.rep_steps.specs.Moves.{Found, Moves, answer, check_answer, after, reads_a_page, Fails, MeetsCorruption, checked, flushed, synced_stage, synced_phase, start_after, opening, taken}
 use Rattle.rep_steps.specs.FactLaws.{after_serves}
 use Rattle.rep_steps.specs.Runs.{Runs}
-use Rattle.rep_engine.specs.Holding.{wrote, synced}
+use Rattle.rep_recover.specs.Holding.{wrote, synced}
 use Rattle.rep_replica.specs.Replicas.{Replica, facts_of}
 use Rattle.rep_replica.specs.Holding.{IsStep}
 use Rattle.rep_replica.specs.Running.{RunsAreJoined}

@@ -23,9 +23,9 @@ use Rattle.rep_steps.specs.Parts.{with_ahead, part_of, Widens, PartsStepAsTheWho
 use Rattle.rep_steps.specs.Images.{IsFrontAt}
 use Rattle.rep_steps.specs.Judging.{JudgingGoesOn}
 use Rattle.rep_steps.specs.FactLaws.{passed_by}
-use Rattle.rep_image.specs.Meanings.{Means}
-use Rattle.rep_engine.specs.Engines.{Engine, IsWhole, facts_of as engine_facts, phase_at, durable_of}
-use Rattle.rep_engine.specs.Holding.{Holds as EngineHolds}
+use Rattle.rep_recover.specs.Meanings.{Means}
+use Rattle.rep_recover.specs.Engines.{Engine, IsWhole, facts_of as engine_facts, phase_at, durable_of}
+use Rattle.rep_recover.specs.Holding.{Holds as EngineHolds}
 use Rattle.rep_replica.specs.Replicas.{Replica, facts_of}
 use Rattle.rep_replica.specs.Refusing.{RefusesUnchanged}
 use Rattle.rep_replica.specs.Spelling.{Spells}

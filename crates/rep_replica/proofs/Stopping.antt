@@ -7,8 +7,8 @@ use Rattle.rep_steps.specs.Standings.{Standing}
 use Rattle.rep_steps.specs.Nodes.{Node, IsNode}
 use Rattle.rep_steps.specs.Orders.{IsOf, NodesHoldTheOrder}
 use Rattle.rep_steps.specs.Images.{IsFrontAt, IsFrontOf, FrontsStandForTheOrder}
-use Rattle.rep_image.specs.Meanings.{Means}
-use Rattle.rep_engine.specs.Holding.{Holds as EngineHolds}
+use Rattle.rep_recover.specs.Meanings.{Means}
+use Rattle.rep_recover.specs.Holding.{Holds as EngineHolds}
 use Rattle.rep_replica.specs.Replicas.{Replica}
 use Rattle.rep_replica.specs.Holding.{Holds}
 use Rattle.rep_replica.specs.Stopping.{HoldsStopped, StoppedReplicasHold}

@@ -21,8 +21,8 @@ use Rattle.rep_steps.specs.declared.answer.Answer.TheVariants.{Synced, Refused}
 use Rattle.rep_steps.specs.Standings.{Standing, refusal, refusal_here, Off}
 use Rattle.rep_steps.specs.Moves.{Found, after, replies, opening}
 use Rattle.rep_steps.specs.Runs.{acknowledged}
-use Rattle.rep_engine.specs.Engines.{IsEngine, IsWhole, HasAll}
-use Rattle.rep_engine.specs.Writing.{IsWrite}
+use Rattle.rep_recover.specs.Engines.{IsEngine, IsWhole, HasAll}
+use Rattle.rep_recover.specs.Writing.{IsWrite}
 use Rattle.rep_replica.specs.Replicas.{Replica, facts_of}
 use Rattle.rep_replica.specs.Holding.{IsStep}
 use Rattle.rep_replica.specs.Running.{RunsAreJoined}

@@ -17,10 +17,10 @@ use Rattle.rep_steps.specs.Standings.{Standing}
 use Rattle.rep_steps.specs.Nodes.{Node, IsNode, Steps, NodesStayNodes, reached, window_at}
 use Rattle.rep_steps.specs.Parts.{with_ahead, part_of, Widens}
 use Rattle.rep_steps.specs.Images.{Meaning, IsFront, IsFrontAt, IsEndOf, AreJudgedFrom}
-use Rattle.rep_image.specs.Meanings.{Means}
+use Rattle.rep_recover.specs.Meanings.{Means}
 use Rattle.rep_steps.specs.Judging.{JudgingGoesOn}
-use Rattle.rep_engine.specs.Engines.{facts_of as engine_facts}
-use Rattle.rep_engine.specs.Holding.{Holds as EngineHolds}
+use Rattle.rep_recover.specs.Engines.{facts_of as engine_facts}
+use Rattle.rep_recover.specs.Holding.{Holds as EngineHolds}
 use Rattle.rep_replica.specs.Replicas.{Replica, facts_of}
 use Rattle.rep_replica.specs.Holding.{Holds}
 use Rattle.rep_replica.proofs.Lists.{drop_apart}

@@ -6,7 +6,7 @@ use Rattle.rep_types.specs.declared.refusal.Part.{Part}
 use Rattle.rep_disk.specs.declared.disk.Disk.{Ghosts}
 use Rattle.rep_disk.specs.Devices.{Calls, SameHistory}
 use Rattle.rep_log.specs.Moves.{fault_of}
-use Rattle.rep_engine.specs.Reading.{halted_by}
+use Rattle.rep_recover.specs.Reading.{halted_by}
 use Rattle.rep_replica.specs.Replicas.{Replica, OnlyItsEngineAsks}
 
 -- The device is asked, and nothing else changes but whether the replica is stopped: one that is stopped, from outside or by its device,

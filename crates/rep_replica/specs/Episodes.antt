@@ -14,7 +14,7 @@ use Rattle.rep_steps.specs.Nodes.{Node}
 use Rattle.rep_steps.specs.Orders.{IsOf}
 use Rattle.rep_steps.specs.Runs.{accepted_by, acknowledged}
 use Rattle.rep_steps.specs.Images.{Meaning, IsFrontAt, IsFrontOf}
-use Rattle.rep_image.specs.Meanings.{Means}
+use Rattle.rep_recover.specs.Meanings.{Means}
 use Rattle.rep_replica.specs.Replicas.{Replica, facts_of}
 use Rattle.rep_replica.specs.Holding.{Holds}
 use Rattle.rep_replica.specs.Running.{Ran}

@@ -17,8 +17,8 @@ use Rattle.rep_steps.specs.Moves.{Moves}
 use Rattle.rep_steps.specs.Nodes.{Node, IsNode, Steps, verdict_for, window_at}
 use Rattle.rep_steps.specs.Parts.{part_of}
 use Rattle.rep_steps.specs.Images.{IsFrontAt, IsEndOf, AreJudgedFrom}
-use Rattle.rep_image.specs.Meanings.{Means}
-use Rattle.rep_engine.specs.Holding.{Holds as EngineHolds}
+use Rattle.rep_recover.specs.Meanings.{Means}
+use Rattle.rep_recover.specs.Holding.{Holds as EngineHolds}
 use Rattle.rep_replica.specs.Replicas.{Replica, facts_of}
 use Rattle.rep_replica.specs.Refusing.{RefusesUnchanged}
 use Rattle.rep_replica.specs.Spelling.{Spells}

@@ -12,11 +12,11 @@ use Rattle.rep_cert.specs.Holdings.{Holdings, IsAskable, window_of, made_at}
 use Rattle.rep_steps.specs.Standings.{Standing, Off}
 use Rattle.rep_steps.specs.Nodes.{Node, window_at}
 use Rattle.rep_steps.specs.Images.{AreJudgedFrom, IsFrontAt}
-use Rattle.rep_image.specs.Meanings.{Means}
-use Rattle.rep_checkpoint.specs.Coming.{Coming}
+use Rattle.rep_recover.specs.Meanings.{Means}
+use Rattle.rep_recover.specs.Coming.{Coming}
 use Rattle.rep_layout.specs.Windows.{IsWindowAt}
-use Rattle.rep_engine.specs.Engines.{Engine, engine_code}
-use Rattle.rep_engine.specs.Installing.{HoldsBoth as EngineHoldsBoth, HoldsEither, MeansEither}
+use Rattle.rep_recover.specs.Engines.{Engine, engine_code}
+use Rattle.rep_recover.specs.Installing.{HoldsBoth as EngineHoldsBoth, HoldsEither, MeansEither}
 use Rattle.rep_replica.specs.Replicas.{Replica, IsReplica, facts_of}
 use Rattle.rep_replica.specs.Settling.{is_quiet}
 use Rattle.rep_replica.specs.Holding.{Holds}

@@ -14,3 +14,15 @@ pub mod SettlingLaws
 pub mod Committing
 pub mod Installing
 pub mod Donating
+pub use Rattle.rep_recover.specs.Engines
+pub use Rattle.rep_recover.specs.Donating as EngineDonating
+pub use Rattle.rep_recover.specs.Installing as EngineInstalling
+pub use Rattle.rep_recover.specs.Reading as EngineReading
+pub use Rattle.rep_recover.specs.Ascending
+pub use Rattle.rep_recover.specs.Coming
+pub use Rattle.rep_recover.specs.Next
+pub use Rattle.rep_recover.specs.BasePages
+pub use Rattle.rep_recover.specs.Meanings
+pub use Rattle.rep_recover.specs.Formatting
+pub use Rattle.rep_recover.specs.Looking
+pub use Rattle.rep_recover.specs.Opening as DiskOpening

@@ -19,8 +19,8 @@ use Rattle.rep_steps.specs.Nodes.{Node, IsNode, Steps, state_at}
 use Rattle.rep_steps.specs.Orders.{IsOf}
 use Rattle.rep_steps.specs.Runs.{Runs, accepted_by, verdicts, acknowledged, ComesTo, AnswersOf}
 use Rattle.rep_steps.specs.Images.{IsFrontOf}
-use Rattle.rep_image.specs.Meanings.{Means}
-use Rattle.rep_engine.specs.Engines.{gtid_of}
+use Rattle.rep_recover.specs.Meanings.{Means}
+use Rattle.rep_recover.specs.Engines.{gtid_of}
 use Rattle.rep_replica.specs.Replicas.{Replica, facts_of}
 use Rattle.rep_replica.specs.Holding.{Holds}
 use Rattle.rep_replica.specs.Running.{Ran}

@@ -3,7 +3,7 @@ use Rattle.std.specs.Prelude.{◌≡◌, ℕ, Bool, false, []}
 use Rattle.rep_disk.specs.declared.disk.Disk.{Ghosts}
 use Rattle.rep_disk.specs.History.{History, Synced, seen}
 use Rattle.rep_steps.specs.Images.{Meaning, opened, OpensTheOrder}
-use Rattle.rep_image.specs.Meanings.{Means}
+use Rattle.rep_recover.specs.Meanings.{Means}
 use Rattle.rep_recover.specs.Starting.{IsStart}
 use Rattle.rep_replica.specs.Replicas.{Replica, facts_of}
 use Rattle.rep_replica.specs.Holding.{Holds}

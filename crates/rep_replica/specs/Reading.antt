@@ -11,7 +11,7 @@ use Rattle.rep_log.specs.Moves.{fault_of}
 use Rattle.rep_steps.specs.declared.event.Event.TheVariants.{Read}
 use Rattle.rep_steps.specs.Nodes.{Node}
 use Rattle.rep_steps.specs.Orders.{IsOf}
-use Rattle.rep_engine.specs.Holding.{row}
+use Rattle.rep_recover.specs.Holding.{row}
 use Rattle.rep_replica.specs.Replicas.{Replica, OnlyItsEngineAsks}
 use Rattle.rep_replica.specs.Holding.{Holds, IsStep}
 

@@ -9,8 +9,8 @@ use Rattle.rep_steps.specs.declared.event.Event.{Event}
 use Rattle.rep_steps.specs.declared.event.Event.TheVariants.{Log}
 use Rattle.rep_steps.specs.declared.answer.Answer.{Answer}
 use Rattle.rep_steps.specs.declared.answer.Answer.TheVariants.{Refused}
-use Rattle.rep_engine.specs.Accepting.{accepted_in, AddsItems}
-use Rattle.rep_engine.specs.Writing.{written_in}
+use Rattle.rep_recover.specs.Accepting.{accepted_in, AddsItems}
+use Rattle.rep_recover.specs.Writing.{written_in}
 use Rattle.rep_replica.specs.Replicas.{Replica}
 
 -- how many of the items that wait the engine takes next

@@ -5,9 +5,9 @@ use Rattle.rep_types.specs.declared.judged.Judged.{Judged}
 use Rattle.rep_record.specs.Records.{is_placed}
 use Rattle.rep_cert.specs.Holdings.{Holding, Holdings, IsAskable}
 use Rattle.rep_steps.specs.Standings.{Standing, delivered}
-use Rattle.rep_engine.specs.Engines.{Engine, engine_code, facts_of as engine_facts}
-use Rattle.rep_engine.specs.Accepting.{ComeNext}
-use Rattle.rep_engine.specs.Checking.{HoldsWindows}
+use Rattle.rep_recover.specs.Engines.{Engine, engine_code, facts_of as engine_facts}
+use Rattle.rep_recover.specs.Accepting.{ComeNext}
+use Rattle.rep_recover.specs.Checking.{HoldsWindows}
 use Rattle.rep_disk.specs.declared.disk.Disk.{Ghosts}
 
 -- What a replica holds: the engine, the delivered items that the engine has not accepted, what the certifier holds, and whether

@@ -7,7 +7,7 @@ use Rattle.rep_steps.specs.Nodes.{Node}
 use Rattle.rep_steps.specs.Orders.{NodesHoldTheOrder, StepsFollowTheOrder}
 use Rattle.rep_steps.specs.Runs.{RunsComeTo, RunsAnswerTheOrder}
 use Rattle.rep_steps.specs.Images.{RunsOn}
-use Rattle.rep_image.specs.Meanings.{Means}
+use Rattle.rep_recover.specs.Meanings.{Means}
 use Rattle.rep_replica.specs.Replicas.{Replica}
 use Rattle.rep_replica.specs.Holding.{Holds, IsStep}
 

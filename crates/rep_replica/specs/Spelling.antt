@@ -9,10 +9,10 @@ use Rattle.rep_steps.specs.declared.event.Event.{Event}
 use Rattle.rep_steps.specs.declared.event.Event.TheVariants.{Flush, Read}
 use Rattle.rep_steps.specs.declared.answer.Answer.{Answer}
 use Rattle.rep_steps.specs.declared.answer.Answer.TheVariants.{Wrote, Row, Refused}
-use Rattle.rep_pool.specs.BasePages.{IsBadPage}
-use Rattle.rep_checkpoint.specs.Moves.{position_in}
-use Rattle.rep_checkpoint.specs.Calls.{FlushesAsSpelled}
-use Rattle.rep_engine.specs.Reading.{ReadsAt}
+use Rattle.rep_recover.specs.BasePages.{IsBadPage}
+use Rattle.rep_recover.specs.CheckpointMoves.{position_in}
+use Rattle.rep_recover.specs.CheckpointCalls.{FlushesAsSpelled}
+use Rattle.rep_recover.specs.Reading.{ReadsAt}
 use Rattle.rep_replica.specs.Replicas.{Replica}
 
 -- A page was flushed, or not. On an honest device its bytes decide: where they have the page, it was written as it is at the checkpoint's

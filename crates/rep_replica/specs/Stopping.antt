@@ -7,8 +7,8 @@ use Rattle.rep_disk.specs.Laws.{MomentsOfCalls}
 use Rattle.rep_steps.specs.Nodes.{Node, IsNode}
 use Rattle.rep_steps.specs.Orders.{IsOf}
 use Rattle.rep_steps.specs.Images.{IsFrontAt, IsFrontOf}
-use Rattle.rep_image.specs.Meanings.{Means, ImagesMeanOneThing}
-use Rattle.rep_engine.specs.Holding.{Holds as EngineHolds}
+use Rattle.rep_recover.specs.Meanings.{Means, ImagesMeanOneThing}
+use Rattle.rep_recover.specs.Holding.{Holds as EngineHolds}
 use Rattle.rep_replica.specs.Replicas.{Replica, facts_of}
 use Rattle.rep_replica.specs.Holding.{Holds}
 

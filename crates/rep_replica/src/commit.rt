@@ -3,7 +3,7 @@
 ghost use Rattle.std.specs.Prelude.{◌≡◌, ◌<◌, ◌||◌, ◌⊎◌, ◌==◌, true, false, is_some, [], length, Some, Ok, Err, IfErr, OnOk, MatchOption};
 ghost use Rattle.rep_log.specs.declared.phase.Step.TheVariants.{Sync as to_sync, Full};
 ghost use Rattle.rep_log.specs.Standing.{due_of};
-ghost use Rattle.rep_engine.specs.Writing.{IsWrite};
+ghost use Rattle.rep_recover.specs.Writing.{IsWrite};
 ghost use Rattle.rep_steps.specs.declared.event.Event.TheVariants.{Flush};
 ghost use Rattle.rep_steps.specs.Standings.{Off};
 ghost use Rattle.rep_replica.specs.Replicas.{facts_of};

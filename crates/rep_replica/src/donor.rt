@@ -10,7 +10,7 @@ ghost use Rattle.rep_layout.specs.Windows.{IsWindowBody, beside};
 ghost use Rattle.rep_cells.specs.Readings.{reading_of};
 ghost use Rattle.rep_pages.specs.Slots.{state_of_page};
 ghost use Rattle.rep_steps.specs.Nodes.{Node};
-ghost use Rattle.rep_engine.specs.Donating.{IsTailBlock, IsBlockAsSpelled, IsBasePage, HasNoRow, IsWindowAsSpelled, IsBasePageAsSpelled};
+ghost use Rattle.rep_recover.specs.Donating.{IsTailBlock, IsBlockAsSpelled, IsBasePage, HasNoRow, IsWindowAsSpelled, IsBasePageAsSpelled};
 ghost use Rattle.rep_replica.specs.Holding.{Holds};
 ghost use Rattle.rep_replica.specs.Asking.{IsAsked};
 ghost use Rattle.rep_replica.specs.Donating.{Asks};

@@ -11,13 +11,13 @@ ghost use Rattle.rep_log.specs.Moves.{fault_of};
 ghost use Rattle.rep_steps.specs.Standings.{Retiring, Off};
 ghost use Rattle.rep_steps.specs.Nodes.{Node};
 ghost use Rattle.rep_steps.specs.Images.{IsFrontAt};
-ghost use Rattle.rep_image.specs.Meanings.{Means};
-ghost use Rattle.rep_checkpoint.specs.Coming.{IsNewPage, blank, coming, placed, with_page};
-ghost use Rattle.rep_checkpoint.specs.Installing.{WritesComing};
+ghost use Rattle.rep_recover.specs.Meanings.{Means};
+ghost use Rattle.rep_recover.specs.Coming.{IsNewPage, blank, coming, placed, with_page};
+ghost use Rattle.rep_recover.specs.CheckpointInstalling.{WritesComing};
 ghost use Rattle.rep_layout.specs.Windows.{IsWindowAt};
-ghost use Rattle.rep_engine.specs.Engines.{durable_of};
-ghost use Rattle.rep_engine.specs.Reading.{halted_by};
-ghost use Rattle.rep_engine.specs.Installing.{CanBring, halted_node};
+ghost use Rattle.rep_recover.specs.Engines.{durable_of};
+ghost use Rattle.rep_recover.specs.Reading.{halted_by};
+ghost use Rattle.rep_recover.specs.Installing.{CanBring, halted_node};
 ghost use Rattle.rep_replica.specs.Replicas.{facts_of};
 ghost use Rattle.rep_replica.specs.Settling.{is_quiet, IsRunning};
 ghost use Rattle.rep_replica.specs.Holding.{Holds};
@@ -29,8 +29,8 @@ use crate::settle::outcome;
 use rep_backlog::Backlog;
 use rep_cert::Certifier;
 use rep_disk::Disk;
-use rep_engine::{Installation as EngineInstallation, certifiers_hold_windows};
 use rep_pages::PageRows;
+use rep_recover::{Installation as EngineInstallation, certifiers_hold_windows};
 use rep_types::{Params, Refusal, Window};
 use std::alloc::Global;
 use std::marker::Model;
@@ -53,7 +53,7 @@ pub struct Installation<D: Disk> {
 
 impl<D: Disk> Model for Installation<D> {
     ghost use Rattle.std.specs.Prelude.{◌≡◌, []};
-    ghost use Rattle.rep_engine.specs.Engines.{facts_of as engine_facts};
+    ghost use Rattle.rep_recover.specs.Engines.{facts_of as engine_facts};
     ghost use Rattle.rep_replica.specs.Installing.{Bringing, IsBringing, bringing_code};
 
     ghost Value = { Bringing D };

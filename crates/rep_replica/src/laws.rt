@@ -10,8 +10,7 @@ ghost use Rattle.rep_replica.specs.Asking.{AsksAreGivenUp};
 
 use crate::replica::Replica;
 use rep_disk::{Disk, moments_of_calls};
-use rep_engine::running_engines_leave_their_ends;
-use rep_image::images_mean_one_thing;
+use rep_recover::{images_mean_one_thing, running_engines_leave_their_ends};
 use rep_steps::{
     fronts_stand_for_the_order, nodes_hold_the_order, nodes_outlast_failures,
     runs_answer_the_order, runs_come_to, steps_follow_the_order,

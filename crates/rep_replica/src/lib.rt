@@ -17,4 +17,5 @@ pub use laws::{
     lives_with_snapshots_follow_the_order, reads_forget_nothing, running_replicas_leave_their_ends,
     runs_are_joined, stopped_replicas_hold,
 };
+pub use rep_recover::{format_disk, the_tail_is_told};
 pub use replica::Replica;

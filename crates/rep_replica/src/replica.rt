@@ -6,7 +6,7 @@ ghost use Rattle.rep_pages.specs.Slots.{state_of_page};
 ghost use Rattle.rep_cert.specs.Holdings.{window_of, verdict_of};
 ghost use Rattle.rep_steps.specs.Standings.{delivered};
 ghost use Rattle.rep_steps.specs.Nodes.{Node, verdict_for, window_at};
-ghost use Rattle.rep_engine.specs.Engines.{facts_of as engine_facts, gtid_of, durable_of};
+ghost use Rattle.rep_recover.specs.Engines.{facts_of as engine_facts, gtid_of, durable_of};
 ghost use Rattle.rep_replica.specs.Replicas.{IsReplica, facts_of};
 ghost use Rattle.rep_replica.specs.Holding.{Holds};
 ghost use Rattle.rep_replica.specs.Committing.{pages_left};
@@ -14,7 +14,7 @@ ghost use Rattle.rep_replica.specs.Committing.{pages_left};
 use rep_backlog::Backlog;
 use rep_cert::Certifier;
 use rep_disk::Disk;
-use rep_engine::Engine;
+use rep_recover::Engine;
 use rep_types::{Gtid, Item, Params, Refusal, Verdict, Window};
 use std::alloc::Global;
 use std::marker::Model;
@@ -37,7 +37,7 @@ pub struct Replica<D: Disk> {
 }
 
 impl<D: Disk> Model for Replica<D> {
-    ghost use Rattle.rep_engine.specs.Engines.{facts_of as engine_facts};
+    ghost use Rattle.rep_recover.specs.Engines.{facts_of as engine_facts};
     ghost use Rattle.rep_replica.specs.Replicas.{Replica as Contents, IsReplica, replica_code};
 
     ghost Value = { Contents D };

@@ -13,7 +13,7 @@ use rep_types::Refusal;
 use std::alloc::Global;
 
 impl<D: Disk> Core for Replica<D> {
-    ghost use Rattle.rep_image.specs.Meanings.{Means};
+    ghost use Rattle.rep_recover.specs.Meanings.{Means};
     ghost use Rattle.rep_replica.specs.Replicas.{facts_of};
     ghost use Rattle.rep_replica.specs.Holding.{Holds};
 

@@ -12,10 +12,10 @@ ghost use Rattle.rep_replica.specs.Committing.{LeavesRoom};
 
 use crate::laws::runs_are_joined;
 use crate::replica::Replica;
-use rep_checkpoint::Step as CheckpointStep;
 use rep_disk::Disk;
 use rep_log::Step;
 use rep_record::fronts_are_determined;
+use rep_recover::Step as CheckpointStep;
 use rep_steps::{Answer, Event};
 use rep_types::Refusal;
 

@@ -11,10 +11,10 @@ ghost use Rattle.rep_steps.specs.Events.{delivery};
 ghost use Rattle.rep_steps.specs.Standings.{delivery_refusal};
 ghost use Rattle.rep_steps.specs.declared.answer.Answer.TheVariants.{Refused};
 ghost use Rattle.rep_steps.specs.Nodes.{Node};
-ghost use Rattle.rep_engine.specs.Accepting.{is_gathering};
-ghost use Rattle.rep_engine.specs.Checking.{checked};
-ghost use Rattle.rep_engine.specs.Holding.{wrote, synced, row};
-ghost use Rattle.rep_engine.specs.Writing.{written_in};
+ghost use Rattle.rep_recover.specs.Accepting.{is_gathering};
+ghost use Rattle.rep_recover.specs.Checking.{checked};
+ghost use Rattle.rep_recover.specs.Holding.{wrote, synced, row};
+ghost use Rattle.rep_recover.specs.Writing.{written_in};
 ghost use Rattle.rep_replica.specs.Replicas.{facts_of, OnlyItsEngineAsks};
 ghost use Rattle.rep_replica.specs.Refusing.{Gathers};
 ghost use Rattle.rep_replica.specs.Spelling.{ReadIsSpelled};
@@ -23,8 +23,8 @@ ghost use Rattle.rep_replica.specs.Settling.{outcome_of};
 
 use crate::replica::Replica;
 use rep_disk::Disk;
-use rep_engine::{accepted_items_are_a_front, certifiers_hold_windows};
 use rep_log::Phase;
+use rep_recover::{accepted_items_are_a_front, certifiers_hold_windows};
 use rep_steps::{
     Answer, Event, Replies, judging_goes_on, nodes_stay_nodes, parts_step_as_the_whole,
     verdicts_have_a_place,

@@ -7,9 +7,9 @@ use Rattle.rep_types.specs.declared.refusal.Part.{Part}
 use Rattle.rep_types.specs.declared.refusal.Part.TheVariants.{Pages}
 use Rattle.rep_disk.specs.declared.disk.Disk.{Ghosts}
 use Rattle.rep_steps.specs.Nodes.{Node}
-use Rattle.rep_replica.specs.Replicas.{Replica, facts_of}
-use Rattle.rep_replica.specs.Holding.{Holds}
-use Rattle.rep_replica.specs.Settling.{is_quiet}
+use Rattle.rep_catchup.specs.Replicas.{Replica, facts_of}
+use Rattle.rep_catchup.specs.Holding.{Holds}
+use Rattle.rep_catchup.specs.Settling.{is_quiet}
 use Rattle.rep_catchup.specs.Growing.{Tells as TellsOfDevice}
 use Rattle.rep_catchup.specs.Joining.{Joined, TookTransfer}
 use Rattle.rep_script.specs.CatchingUp.{Taken}

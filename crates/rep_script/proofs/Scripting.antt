@@ -11,14 +11,14 @@ use Rattle.rep_types.specs.Transactions.{Renews}
 use Rattle.rep_types.specs.declared.item.Item.{Item}
 use Rattle.rep_steps.specs.declared.answer.Answer.{Answer}
 use Rattle.rep_steps.specs.Events.{delivery}
-use Rattle.rep_replica.specs.Holding.{IsStep}
+use Rattle.rep_catchup.specs.Holding.{IsStep}
 use Rattle.rep_disk.specs.declared.disk.Disk.{Ghosts}
 use Rattle.rep_disk.specs.declared.memory.Loss.{Loss}
 use Rattle.rep_disk.specs.History.{History, stable}
 use Rattle.rep_disk.specs.Memory.{Memory}
 use Rattle.rep_record.specs.Words.{is_blank, words}
 use Rattle.rep_record.specs.Lines.{Unread, ahead, NextLine}
-use Rattle.rep_replica.specs.Replicas.{Replica}
+use Rattle.rep_catchup.specs.Replicas.{Replica}
 use Rattle.rep_script.specs.declared.script_line.Command.{Command}
 use Rattle.rep_script.specs.declared.script_line.Command.TheVariants.{Step, State, Limits, Sum, Stop}
 use Rattle.rep_record.specs.Reading.{order_line, is_next, next, number_in, outcome}

@@ -6,9 +6,9 @@ use Rattle.rep_types.specs.declared.refusal.Refusal.{Refusal}
 use Rattle.rep_types.specs.Gtids.{Gtid, gtid_text}
 use Rattle.rep_disk.specs.declared.disk.Disk.{Ghosts}
 use Rattle.rep_steps.specs.Nodes.{Node}
-use Rattle.rep_replica.specs.Replicas.{Replica, facts_of}
-use Rattle.rep_replica.specs.Holding.{Holds}
-use Rattle.rep_replica.specs.Settling.{is_quiet}
+use Rattle.rep_catchup.specs.Replicas.{Replica, facts_of}
+use Rattle.rep_catchup.specs.Holding.{Holds}
+use Rattle.rep_catchup.specs.Settling.{is_quiet}
 use Rattle.rep_transfer.specs.declared.have.Have.{Have}
 use Rattle.rep_transfer.specs.Transfers.{Transfer, transfer_bytes}
 use Rattle.rep_catchup.specs.Donating.{IsDonated}

@@ -2,7 +2,7 @@
 use Rattle.std.specs.Prelude.{ℕ, if◌then◌else◌, List, ◌++◌, codes, Option, pos, negsuc}
 use Rattle.rep_types.specs.Gtids.{Gtid, gtid_text}
 use Rattle.uuid.specs.Parts.{is_nil_bytes}
-use Rattle.rep_recover.specs.Formatting.{uuid_of}
+use Rattle.rep_catchup.specs.Formatting.{uuid_of}
 
 -- The GTID of a new node of this state UUID: nothing came yet. Without a UUID it is undefined, the nil UUID and -1 (Galera documentation).
 abbrev pub first_gtid : Option (List ℕ) → Gtid

@@ -11,12 +11,12 @@ use Rattle.rep_disk.specs.Memory.{Memory, IsAfterLoss}
 use Rattle.rep_disk.specs.Devices.{Calls}
 use Rattle.rep_layout.specs.Places.{need_of}
 use Rattle.rep_steps.specs.declared.answer.Answer.{Answer}
-use Rattle.rep_recover.specs.Looking.{fault_in}
-use Rattle.rep_recover.specs.Formatting.{ImagesStandFor}
-use Rattle.rep_recover.specs.Opening.{without_log, RefusesToOpen, IsUnwritten}
-use Rattle.rep_replica.specs.Replicas.{Replica}
-use Rattle.rep_replica.specs.Holding.{IsStep}
-use Rattle.rep_replica.specs.Opening.{Begins as BeginsOn, Opens}
+use Rattle.rep_catchup.specs.Looking.{fault_in}
+use Rattle.rep_catchup.specs.Formatting.{ImagesStandFor}
+use Rattle.rep_catchup.specs.DiskOpening.{without_log, RefusesToOpen, IsUnwritten}
+use Rattle.rep_catchup.specs.Replicas.{Replica}
+use Rattle.rep_catchup.specs.Holding.{IsStep}
+use Rattle.rep_catchup.specs.Opening.{Begins as BeginsOn, Opens}
 use Rattle.rep_script.specs.declared.script_line.Command.{Command}
 use Rattle.rep_script.specs.declared.script_line.Command.TheVariants.{Step, State, Limits, Sum, Stop}
 use Rattle.rep_script.specs.ScriptLines.{script_line}

@@ -4,7 +4,7 @@ use Rattle.std.specs.Io.KnownBytes.{Keeps}
 use Rattle.rep_types.specs.declared.refusal.Refusal.{Refusal}
 use Rattle.rep_types.specs.declared.refusal.Refusal.TheVariants.{StreamFault}
 use Rattle.rep_disk.specs.declared.disk.Disk.{Ghosts}
-use Rattle.rep_replica.specs.Replicas.{Replica, facts_of}
+use Rattle.rep_catchup.specs.Replicas.{Replica, facts_of}
 use Rattle.rep_sum.specs.declared.sum.Sum.{Sum}
 use Rattle.rep_sum.specs.Sums.{IsSumAt, sum_text}
 use Rattle.rep_script.specs.Answering.{Tells}

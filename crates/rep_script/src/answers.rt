@@ -2,15 +2,15 @@
 
 ghost use Rattle.std.specs.Prelude.{◌≡◌, ℕ, [], ◌∷◌, ◌++◌, take, IfSome, IfErr, OnOk, OnErr, MatchResult, is_ok, true};
 ghost use Rattle.std.specs.Io.KnownBytes.{Appends, Keeps};
-ghost use Rattle.rep_engine.specs.Engines.{gtid_of};
+ghost use Rattle.rep_catchup.specs.Engines.{gtid_of};
 ghost use Rattle.rep_streams.specs.Streams.{Notes};
 ghost use Rattle.rep_script.specs.Answering.{Tells, state_line};
 
 use crate::refused::write_refused;
 use arrayvec::ArrayVec;
+use rep_catchup::Replica;
 use rep_disk::Disk;
 use rep_record::write_verdict;
-use rep_replica::Replica;
 use rep_steps::Answer;
 use rep_streams::Sink;
 use rep_types::{Entry, Gtid, Refusal, Reply, Value};

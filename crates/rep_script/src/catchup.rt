@@ -2,7 +2,7 @@
 
 ghost use Rattle.std.specs.Prelude.{◌≡◌, ◌||◌, ◌⊎◌, ℕ, true, false, is_some, take, List, Option, Err, IfErr, IfOk, OnOk, OnErr};
 ghost use Rattle.std.specs.Io.KnownBytes.{Appends, Keeps};
-ghost use Rattle.rep_engine.specs.Engines.{gtid_of};
+ghost use Rattle.rep_catchup.specs.Engines.{gtid_of};
 ghost use Rattle.rep_steps.specs.Nodes.{Node};
 ghost use Rattle.rep_record.specs.Lines.{NotesText};
 ghost use Rattle.rep_transfer.specs.declared.have.Have.{Have};
@@ -17,9 +17,8 @@ ghost use Rattle.rep_script.specs.Answering.{NotesBoth, Tells};
 ghost use Rattle.rep_script.specs.CatchingUp.{donated_line, joined_line, Donates, Taken};
 
 use crate::answers::write_line;
-use rep_catchup::{have, join};
+use rep_catchup::{Replica, have, join};
 use rep_disk::Disk;
-use rep_replica::Replica;
 use rep_streams::{Sink, Source};
 use rep_types::Refusal;
 use std::alloc::Global;

@@ -5,13 +5,13 @@ ghost use Rattle.rep_disk.specs.Devices.{Calls};
 ghost use Rattle.rep_layout.specs.Places.{layout_of, need_of};
 ghost use Rattle.rep_log.specs.Moves.{fault_of};
 ghost use Rattle.rep_streams.specs.Streams.{Notes};
-ghost use Rattle.rep_recover.specs.Formatting.{uuid_of, ImagesStandFor};
+ghost use Rattle.rep_catchup.specs.Formatting.{uuid_of, ImagesStandFor};
 ghost use Rattle.rep_script.specs.Formatting.{first_gtid, formatted_line};
 ghost use Rattle.rep_script.specs.Answering.{Tells};
 
 use crate::answers::write_line;
+use rep_catchup::format_disk;
 use rep_disk::Disk;
-use rep_recover::format_disk;
 use rep_streams::Sink;
 use rep_types::{Gtid, Params, Refusal};
 use uuid::Uuid;

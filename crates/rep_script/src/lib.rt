@@ -26,6 +26,7 @@ pub use judge::{judge_text, read_params};
 pub use laws::reading_is_the_text_grammar;
 pub use limits::write_limits;
 pub use refused::write_refused;
+pub use rep_catchup::{donate, donation_refusal};
 pub use saved_file::read_saved;
 pub use script::{on_new_disk, opened, run_on_disk, run_script};
 pub use script_line::{Command, next_number, read_command, read_loss};

@@ -2,16 +2,16 @@
 
 ghost use Rattle.std.specs.Prelude.{◌≡◌, ◌⊎◌, IfErr};
 ghost use Rattle.rep_cert.specs.Holdings.{window_of};
-ghost use Rattle.rep_engine.specs.Engines.{durable_of};
+ghost use Rattle.rep_catchup.specs.Engines.{durable_of};
 ghost use Rattle.rep_steps.specs.Nodes.{Node, window_at};
-ghost use Rattle.rep_replica.specs.Holding.{Holds};
+ghost use Rattle.rep_catchup.specs.Holding.{Holds};
 ghost use Rattle.rep_streams.specs.Streams.{Notes};
 ghost use Rattle.rep_script.specs.Answering.{Tells, limits_line};
 
 use crate::answers::write_line;
 use crate::refused::write_refused;
+use rep_catchup::Replica;
 use rep_disk::Disk;
-use rep_replica::Replica;
 use rep_streams::Sink;
 use rep_types::{Refusal, Window};
 use std::alloc::Global;

@@ -3,12 +3,12 @@
 ghost use Rattle.std.specs.Prelude.{◌≡◌, ◌↔◌, ◌⊎◌, ℕ, [], take, Err, IfErr, OnOk, OnErr, IsTrue};
 ghost use Rattle.std.specs.Option.{option_copied};
 ghost use Rattle.std.specs.Io.KnownBytes.{Appends};
-ghost use Rattle.rep_engine.specs.Engines.{gtid_of};
+ghost use Rattle.rep_catchup.specs.Engines.{gtid_of};
 ghost use Rattle.rep_streams.specs.Streams.{Notes};
 ghost use Rattle.rep_script.specs.States.{IsOfAnother, node_text};
 
+use rep_catchup::Replica;
 use rep_disk::Disk;
-use rep_replica::Replica;
 use rep_saved::SavedState;
 use rep_streams::Sink;
 use rep_types::{Gtid, Refusal};

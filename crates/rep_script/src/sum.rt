@@ -8,8 +8,8 @@ ghost use Rattle.rep_script.specs.Summing.{sum_line, TellsSum, TakesSum};
 
 use crate::answers::write_line;
 use crate::refused::write_refused;
+use rep_catchup::Replica;
 use rep_disk::Disk;
-use rep_replica::Replica;
 use rep_streams::Sink;
 use rep_sum::{Sum, sum_at};
 use rep_types::Refusal;

@@ -7,9 +7,9 @@ ghost use Rattle.rep_replica.specs.Holding.{Holds};
 ghost use Rattle.rep_replica.specs.Asking.{IsAsked};
 
 use crate::exchange::Exchange;
-use rep_catchup::{donate, donation_refusal};
 use rep_disk::Disk;
 use rep_replica::Replica;
+use rep_script::{donate, donation_refusal};
 use rep_transfer::Have;
 use rep_types::Refusal;
 

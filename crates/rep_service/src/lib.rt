@@ -18,5 +18,10 @@ mod service;
 mod syncs;
 
 pub use exchange::Exchange;
+pub use rep_replica::Replica;
+pub use rep_script::{
+    donate, donated_text, donation_refusal, format_text, join_text, read_saved, run_on_disk,
+    state_text, sum_text, write_have,
+};
 pub use service::{follow_on_disk, followers_are_fed};
 pub use syncs::CountsSyncs;

@@ -7,7 +7,7 @@ use Rattle.rep_types.specs.declared.key.Key.{Key}
 use Rattle.rep_types.specs.declared.refusal.Refusal.{Refusal}
 use Rattle.rep_types.specs.declared.refusal.Refusal.TheVariants.{Stopped}
 use Rattle.rep_types.specs.Replies.{reply_of}
-use Rattle.rep_record.specs.Fronts.{fitting}
+use Rattle.rep_log.specs.Fronts.{fitting}
 use Rattle.rep_log.specs.declared.phase.Phase.{Phase}
 use Rattle.rep_log.specs.declared.phase.Phase.TheVariants.{Resting, Closing, Filling, Filled, Opening}
 use Rattle.rep_steps.specs.declared.event.Event.{Event}

@@ -5,7 +5,7 @@ use Rattle.rep_types.specs.Settings.{Setting}
 use Rattle.rep_types.specs.Windows.{Window}
 use Rattle.rep_types.specs.declared.verdict.Verdict.{Verdict}
 use Rattle.rep_types.specs.Order.{State, extended, judge, window_after}
-use Rattle.rep_record.specs.Blocks.{SeqnosFrom}
+use Rattle.rep_log.specs.Blocks.{SeqnosFrom}
 use Rattle.rep_steps.specs.Nodes.{advanced, reached}
 use Rattle.rep_steps.specs.Images.{AreJudgedFrom}
 use Rattle.rep_steps.specs.Judging.{JudgingGoesOn}

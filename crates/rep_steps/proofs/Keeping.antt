@@ -6,7 +6,7 @@ use Rattle.rep_types.specs.declared.judged.Judged.{Judged}
 use Rattle.rep_types.specs.declared.verdict.Verdict.{Verdict}
 use Rattle.rep_types.specs.declared.item.Item.{Item}
 use Rattle.rep_types.specs.declared.item.Item.TheVariants.{WriteSet}
-use Rattle.rep_record.specs.Fronts.{FrontsAreDetermined}
+use Rattle.rep_log.specs.Fronts.{FrontsAreDetermined}
 use Rattle.rep_log.specs.declared.phase.Phase.{Phase}
 use Rattle.rep_log.specs.declared.phase.Phase.TheVariants.{Resting, Closing, Filling, Filled, Opening}
 use Rattle.rep_steps.specs.declared.event.Event.{Event}

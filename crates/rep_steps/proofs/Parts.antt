@@ -9,7 +9,7 @@ use Rattle.rep_types.specs.declared.refusal.Refusal.{Refusal}
 use Rattle.rep_types.specs.declared.refusal.Refusal.TheVariants.{Stopped, BadKey, NotYet, TooOld}
 use Rattle.rep_types.specs.Replies.{reply_of}
 use Rattle.rep_types.specs.Settings.{has_row}
-use Rattle.rep_record.specs.Fronts.{fitting}
+use Rattle.rep_log.specs.Fronts.{fitting}
 use Rattle.rep_log.specs.declared.phase.Phase.TheVariants.{Resting}
 use Rattle.rep_steps.specs.declared.event.Event.{Event}
 use Rattle.rep_steps.specs.declared.event.Event.TheVariants.{Log, Sync, Check, Flush, Read}

@@ -15,7 +15,7 @@ use Rattle.rep_types.specs.Order.{against, seqnos_against, greatest, conflict_wi
 use Rattle.rep_types.proofs.Choices.{and_left}
 use Rattle.rep_types.proofs.Greatest.{IsGreatest, IsGreatest-greatest}
 use Rattle.rep_types.proofs.Members.{Contains-from_map, Contains-from_filter}
-use Rattle.rep_record.specs.Records.{is_verdict_at, is_placed}
+use Rattle.rep_log.specs.Records.{is_verdict_at, is_placed}
 use Rattle.rep_steps.specs.Judging.{VerdictsHaveAPlace}
 
 module _ (p : Setting) (position : ℕ) (v : Window) (w : Transaction) (low : (e : Entry) → Contains v.entries e → e.seqno ≤ position) where

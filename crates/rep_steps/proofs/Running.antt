@@ -9,7 +9,7 @@ use Rattle.rep_types.specs.declared.item.Item.TheVariants.{WriteSet}
 use Rattle.rep_types.specs.Replies.{reply_of}
 use Rattle.rep_types.specs.Settings.{Setting}
 use Rattle.rep_types.specs.Order.{Order, history, verdict}
-use Rattle.rep_record.specs.Fronts.{FrontsAreDetermined}
+use Rattle.rep_log.specs.Fronts.{FrontsAreDetermined}
 use Rattle.rep_steps.specs.declared.event.Event.{Event}
 use Rattle.rep_steps.specs.declared.event.Event.TheVariants.{Deliver, SetWindow, Log, Sync, Check, Flush, Read}
 use Rattle.rep_steps.specs.declared.answer.Answer.{Answer}

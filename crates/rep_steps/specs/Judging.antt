@@ -7,8 +7,8 @@ use Rattle.rep_types.specs.Entries.{Entry}
 use Rattle.rep_types.specs.Settings.{Setting}
 use Rattle.rep_types.specs.Windows.{Window}
 use Rattle.rep_types.specs.Order.{State, judge, recent, window_after, extended}
-use Rattle.rep_record.specs.Blocks.{SeqnosFrom}
-use Rattle.rep_record.specs.Records.{is_placed}
+use Rattle.rep_log.specs.Blocks.{SeqnosFrom}
+use Rattle.rep_log.specs.Records.{is_placed}
 use Rattle.rep_steps.specs.Nodes.{advanced, reached}
 use Rattle.rep_steps.specs.Images.{AreJudgedFrom}
 

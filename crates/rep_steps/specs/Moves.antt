@@ -14,7 +14,7 @@ use Rattle.rep_types.specs.Replies.{reply_of}
 use Rattle.rep_types.specs.Items.{writes_of}
 use Rattle.rep_types.specs.Order.{counts}
 use Rattle.rep_disk.specs.Calls.{Rises}
-use Rattle.rep_layout.specs.Rows.{row_place}
+use Rattle.rep_log.specs.Rows.{row_place}
 use Rattle.rep_log.specs.declared.phase.Phase.{Phase}
 use Rattle.rep_log.specs.declared.phase.Phase.TheVariants.{Resting, Closing, Filling, Filled, Opening}
 use Rattle.rep_steps.specs.declared.event.Event.{Event}

@@ -2,7 +2,7 @@
 use Rattle.std.specs.Prelude.{◌≡◌, ℕ, ◌-◌, ◌≤◌, List, [], ◌++◌, length, take, drop}
 use Rattle.rep_types.specs.declared.judged.Judged.{Judged}
 use Rattle.rep_types.specs.declared.key.Key.{Key}
-use Rattle.rep_record.specs.Fronts.{fitting}
+use Rattle.rep_log.specs.Fronts.{fitting}
 use Rattle.rep_log.specs.declared.phase.Phase.TheVariants.{Resting}
 use Rattle.rep_steps.specs.declared.event.Event.{Event}
 use Rattle.rep_steps.specs.declared.event.Event.TheVariants.{Log, Sync, Check, Flush, Read}

@@ -8,7 +8,7 @@ use Rattle.rep_types.specs.declared.refusal.Refusal.{Refusal}
 use Rattle.rep_types.specs.declared.refusal.Refusal.TheVariants.{Stopped, OutOfOrder, Backlogged, LogFull, NotDue, TooOld, NotYet, BadKey, Undefined, Exhausted}
 use Rattle.rep_types.specs.declared.limits.TheConstants.{MAX_SEQNO, MAX_AHEAD}
 use Rattle.rep_types.specs.Settings.{Setting, is_setting, has_row}
-use Rattle.rep_record.specs.Fronts.{fitting}
+use Rattle.rep_log.specs.Fronts.{fitting}
 use Rattle.rep_log.specs.declared.phase.Phase.{Phase}
 use Rattle.rep_log.specs.declared.phase.Phase.TheVariants.{Resting, Closing, Filling, Filled, Opening}
 use Rattle.rep_steps.specs.declared.event.Event.{Event}

@@ -11,7 +11,7 @@ ghost use Rattle.rep_steps.specs.Standings.{Standing};
 
 use crate::answer::Answer;
 use crate::event::Event;
-use rep_record::fronts_are_determined;
+use rep_log::fronts_are_determined;
 use rep_types::{Refusal, history_by_items, state_is_enough};
 use std::alloc::Global;
 

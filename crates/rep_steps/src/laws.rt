@@ -9,7 +9,7 @@ ghost use Rattle.rep_steps.specs.Joining.{RunsAreJoined};
 ghost use Rattle.rep_steps.specs.Judging.{JudgingGoesOn, VerdictsHaveAPlace};
 
 use crate::client::Core;
-use rep_record::fronts_are_determined;
+use rep_log::fronts_are_determined;
 use rep_types::{history_by_items, state_is_enough};
 
 /// A step of a node moves its facts as on any device; and facts that moved so move a node, where the step

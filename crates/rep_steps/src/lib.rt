@@ -16,3 +16,4 @@ pub use laws::{
     parts_step_as_the_whole, runs_answer_the_order, runs_are_joined, runs_come_to, steps_are_moves,
     steps_follow_the_order, verdicts_have_a_place,
 };
+pub use rep_log::{the_log_in_every_image, the_log_is_told};

@@ -3,7 +3,7 @@ use Rattle.std.specs.Prelude.{IfSome, Option}
 use Rattle.std.proofs.lemmas.Result.{err_from_is_err_and}
 use Rattle.rep_types.specs.declared.refusal.Part.TheVariants.{Log as InLog}
 use Rattle.rep_record.specs.Blocks.{Contents}
-use Rattle.rep_engine.specs.Donating.{IsTailBlock}
+use Rattle.rep_replica.specs.EngineDonating.{IsTailBlock}
 use Rattle.rep_catchup.specs.Donating.{as_seen}
 use Rattle.rep_catchup.proofs.DonateReads.{asked_part, leaves_all, leaves_asked, leaves_cut, leaves_given, leaves_noted, leaves_passed, leaves_then, still_holds}
 use Rattle.rep_catchup.proofs.DonateTail.{bad_block, block_at_first, blocks_end, blocks_end_within, due_first, form_first, past_first, there_first, wrote_all_blocks, wrote_more_blocks, wrote_no_blocks}

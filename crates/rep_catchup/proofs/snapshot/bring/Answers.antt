@@ -1,6 +1,6 @@
 use Rattle.std.proofs.Common.{rules, Err, ap, inl, sym, subst, ◌∙◌}
-use Rattle.rep_checkpoint.specs.Coming.{blank}
-use Rattle.rep_engine.specs.Engines.{Engine}
+use Rattle.rep_replica.specs.Coming.{blank}
+use Rattle.rep_replica.specs.Engines.{Engine}
 use Rattle.rep_replica.specs.Replicas.{Replica}
 use Rattle.rep_catchup.specs.Growing.{EndsRunning}
 use Rattle.rep_catchup.specs.Snapshots.{GivenUp}

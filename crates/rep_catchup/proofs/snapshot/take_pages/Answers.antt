@@ -1,6 +1,6 @@
 use Rattle.std.proofs.Common.{◌≡◌, ◌<◌, ◌≤◌, None, Ok, ap, subst, ◌∙◌, refl, inr, rules, arith}
 use Rattle.std.proofs.lemmas.Result.{err_from_is_err_and}
-use Rattle.rep_checkpoint.specs.Coming.{IsNewPage}
+use Rattle.rep_replica.specs.Coming.{IsNewPage}
 use Rattle.rep_transfer.specs.Pieces.{PageFits, page_bytes}
 use Rattle.rep_catchup.proofs.JoinTaking.{consumed, took_piece, found_fits, none_found}
 use Rattle.rep_catchup.proofs.JoinBringing.{came_none, came_at, still_runs, pages_stay, pages_failed, no_page_stands, no_such_page}

@@ -5,7 +5,7 @@ use Rattle.rep_layout.specs.declared.super_body.SuperBody.{SuperBody}
 use Rattle.rep_layout.specs.declared.place.Layout.{Layout}
 use Rattle.rep_layout.specs.Places.{layout_of as layout_with}
 use Rattle.rep_cells.specs.Device.{disk_of, layout_of}
-use Rattle.rep_pool.specs.Pools.{Agrees}
+use Rattle.rep_engine.specs.Pools.{Agrees}
 use Rattle.rep_cert.specs.Holdings.{Holding, Holdings}
 use Rattle.rep_engine.specs.Engines.{Engine}
 use Rattle.rep_recover.specs.Opening.{IsOpened}

@@ -13,7 +13,7 @@ use Rattle.rep_cells.specs.Readings.{Reading, reading_of}
 use Rattle.rep_layout.specs.Supers.{IsNil}
 use Rattle.rep_log.specs.Tail.{records_of}
 use Rattle.rep_log.specs.Scanning.{Finds, IsScanned}
-use Rattle.rep_image.specs.Bases.{HasWindow}
+use Rattle.rep_engine.specs.Bases.{HasWindow}
 use Rattle.rep_record.specs.declared.replays.Replays.{Ghosts as Given}
 use Rattle.rep_recover.specs.Judging.{bare, IsNext, Judges, HasJudged}
 use Rattle.rep_recover.specs.Looking.{Looks, HasBlocks, HasPages, HasBadPage}

@@ -7,7 +7,7 @@ use Rattle.rep_layout.specs.declared.place.Layout.{Layout}
 use Rattle.rep_layout.specs.Places.{side_of, need_of}
 use Rattle.rep_cells.specs.Device.{disk_of, layout_of}
 use Rattle.rep_cells.specs.Readings.{Reading, reading_of}
-use Rattle.rep_image.specs.Bases.{IsSuperAt}
+use Rattle.rep_engine.specs.Bases.{IsSuperAt}
 use Rattle.rep_recover.specs.Looking.{Counts, HasBadSuper, HasNoSuper}
 use Rattle.rep_recover.specs.Opening.{without_log, IsOpened, Recovers}
 use Rattle.rep_disk.specs.Devices.{Calls}

@@ -6,7 +6,7 @@ use Rattle.rep_layout.specs.declared.place.Place.TheVariants.{Super}
 use Rattle.rep_layout.specs.Supers.{super_bytes}
 use Rattle.rep_cells.specs.Device.{disk_of, layout_of}
 use Rattle.rep_cells.specs.Readings.{reading_of}
-use Rattle.rep_image.specs.Bases.{IsSuperAt}
+use Rattle.rep_engine.specs.Bases.{IsSuperAt}
 use Rattle.rep_recover.specs.Looking.{Counts, HasNoSuper, HasBadSuper}
 use Rattle.rep_recover.proofs.Choosing.{counts_both, none_open, if_chosen, if_none}
 use Rattle.rep_recover.proofs.supers.find_super.Goals as goal

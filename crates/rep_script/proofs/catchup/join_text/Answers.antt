@@ -2,7 +2,7 @@ use Rattle.std.proofs.Common.{◌≡◌, true, Err, ap, refl, inl, inr, subst, r
 use Rattle.std.proofs.KnownBytes.{Keeps-refl}
 use Rattle.std.proofs.lemmas.Result.{IfErr-weaker}
 use Rattle.rep_types.specs.declared.refusal.Refusal.TheVariants.{StreamFault}
-use Rattle.rep_engine.specs.Engines.{gtid_of}
+use Rattle.rep_catchup.specs.Engines.{gtid_of}
 use Rattle.rep_script.specs.Answering.{Tells}
 use Rattle.rep_script.specs.CatchingUp.{joined_line}
 use Rattle.rep_script.proofs.Answering.{nothing_told}

@@ -2,7 +2,7 @@ use Rattle.std.proofs.Common.{subst}
 use Rattle.std.proofs.lemmas.Result.{err_from_is_err_and}
 use Rattle.rep_types.specs.Windows.{Window}
 use Rattle.rep_cert.specs.Holdings.{window_of}
-use Rattle.rep_engine.specs.Engines.{durable_of}
+use Rattle.rep_catchup.specs.Engines.{durable_of}
 use Rattle.rep_steps.specs.Nodes.{window_at}
 use Rattle.rep_script.specs.Answering.{Tells, limits_line}
 use Rattle.rep_script.proofs.Answering.{nothing_told}

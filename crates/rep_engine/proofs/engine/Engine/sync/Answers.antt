@@ -14,7 +14,7 @@ use Rattle.rep_steps.specs.declared.event.Event.TheVariants.{Sync as to_sync}
 use Rattle.rep_steps.specs.declared.answer.Answer.TheVariants.{Synced}
 use Rattle.rep_steps.specs.Moves.{Moves}
 use Rattle.rep_steps.specs.Images.{IsFrontAt}
-use Rattle.rep_image.specs.Meanings.{Means}
+use Rattle.rep_checkpoint.specs.Meanings.{Means}
 use Rattle.rep_engine.specs.Engines.{Engine, IsEngine, facts_of}
 use Rattle.rep_engine.specs.Holding.{Holds}
 use Rattle.rep_engine.proofs.Pools.{pooled_as, pooled_synced}

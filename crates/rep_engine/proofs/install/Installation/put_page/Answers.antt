@@ -2,7 +2,7 @@ use Rattle.std.proofs.Common.{◌≡◌, None, IfErr, OnOk, Err, ap, subst, ◌�
 use Rattle.rep_types.specs.declared.refusal.Refusal.TheVariants.{DiskFault}
 use Rattle.rep_disk.specs.Moments.{LeavesOnly}
 use Rattle.rep_steps.specs.Images.{IsFrontAt}
-use Rattle.rep_image.specs.Meanings.{Means}
+use Rattle.rep_checkpoint.specs.Meanings.{Means}
 use Rattle.rep_checkpoint.specs.Coming.{with_page}
 use Rattle.rep_checkpoint.specs.Installing.{WritesComing}
 use Rattle.rep_engine.specs.Reading.{halted_by}

@@ -4,12 +4,12 @@ use Rattle.rep_disk.specs.Moments.{LeavesOnly}
 use Rattle.rep_disk.specs.Devices.{Calls}
 use Rattle.rep_log.specs.Moves.{fault_of}
 use Rattle.rep_steps.specs.Images.{IsFrontAt}
-use Rattle.rep_image.specs.Meanings.{Means}
-use Rattle.rep_checkpoint.specs.Coming.{placed, with_page}
-use Rattle.rep_checkpoint.specs.Installing.{WritesComing}
-use Rattle.rep_engine.specs.Engines.{Engine}
-use Rattle.rep_engine.specs.Reading.{halted_by}
-use Rattle.rep_engine.specs.Installing.{Beside, halted_node}
+use Rattle.rep_recover.specs.Meanings.{Means}
+use Rattle.rep_recover.specs.Coming.{placed, with_page}
+use Rattle.rep_recover.specs.CheckpointInstalling.{WritesComing}
+use Rattle.rep_recover.specs.Engines.{Engine}
+use Rattle.rep_recover.specs.Reading.{halted_by}
+use Rattle.rep_recover.specs.Installing.{Beside, halted_node}
 use Rattle.rep_replica.specs.Installing.{Bringing, HoldsBoth}
 use Rattle.rep_replica.proofs.Installing.{halts_on, done_on, some_on}
 use Rattle.rep_replica.proofs.install.Installation.put_page.Goals as goal

@@ -3,8 +3,8 @@ use Rattle.std.specs.Prelude.{OnOk}
 use Rattle.rep_types.specs.declared.judged.Judged.{Judged}
 use Rattle.rep_steps.specs.Standings.{Off as is_off_stage}
 use Rattle.rep_steps.specs.Nodes.{Node}
-use Rattle.rep_checkpoint.specs.Arriving.{installed}
-use Rattle.rep_engine.specs.Engines.{facts_of as engine_facts}
+use Rattle.rep_recover.specs.Arriving.{installed}
+use Rattle.rep_recover.specs.Engines.{facts_of as engine_facts}
 use Rattle.rep_replica.specs.Replicas.{Replica, IsReplica, facts_of}
 use Rattle.rep_replica.specs.Refusing.{TellsFaults}
 use Rattle.rep_replica.specs.Holding.{Holds}

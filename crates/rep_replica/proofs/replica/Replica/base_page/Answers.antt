@@ -5,7 +5,7 @@ use Rattle.rep_types.specs.declared.refusal.Part.TheVariants.{Pages as in_pages}
 use Rattle.rep_types.specs.Order.{State}
 use Rattle.rep_layout.specs.declared.page_state.PageState.TheVariants.{Nowhere}
 use Rattle.rep_pages.specs.Slots.{state_of_page}
-use Rattle.rep_engine.specs.Donating.{IsBasePage, HasNoRow}
+use Rattle.rep_recover.specs.Donating.{IsBasePage, HasNoRow}
 use Rattle.rep_replica.specs.Replicas.{Replica}
 use Rattle.rep_replica.proofs.Donating.{asks, holds_on, base_of_all, holds_running, no_page}
 use Rattle.rep_replica.proofs.Asking.{asked_none, is_asked}

@@ -4,8 +4,8 @@ use Rattle.rep_cert.specs.Holdings.{window_of}
 use Rattle.rep_steps.specs.declared.event.Event.TheVariants.{Check}
 use Rattle.rep_steps.specs.declared.answer.Answer.{Answer}
 use Rattle.rep_layout.specs.Windows.{IsWindowAt}
-use Rattle.rep_engine.specs.Engines.{Engine, facts_of as engine_facts, durable_of}
-use Rattle.rep_engine.specs.Checking.{checked}
+use Rattle.rep_recover.specs.Engines.{Engine, facts_of as engine_facts, durable_of}
+use Rattle.rep_recover.specs.Checking.{checked}
 use Rattle.rep_replica.specs.Replicas.{Replica}
 use Rattle.rep_replica.specs.Holding.{IsStep}
 use Rattle.rep_replica.proofs.Keeping.{check_keeps, replica_keeps, runs_inside}

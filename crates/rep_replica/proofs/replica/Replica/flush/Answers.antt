@@ -1,8 +1,8 @@
 use Rattle.std.proofs.Common.{refl, sym, ap, subst}
 use Rattle.rep_steps.specs.declared.event.Event.TheVariants.{Flush}
 use Rattle.rep_steps.specs.declared.answer.Answer.{Answer}
-use Rattle.rep_engine.specs.Engines.{Engine, facts_of as engine_facts}
-use Rattle.rep_engine.specs.Holding.{wrote}
+use Rattle.rep_recover.specs.Engines.{Engine, facts_of as engine_facts}
+use Rattle.rep_recover.specs.Holding.{wrote}
 use Rattle.rep_replica.specs.Replicas.{Replica}
 use Rattle.rep_replica.specs.Holding.{IsStep}
 use Rattle.rep_replica.proofs.Keeping.{Keep, flush_keeps, replica_keeps, runs_inside}

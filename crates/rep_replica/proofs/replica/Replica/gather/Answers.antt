@@ -2,7 +2,7 @@ use Rattle.std.proofs.Common.{◌≡◌, [], ◌++◌, ◌≤◌, List, length, 
 use Rattle.rep_types.specs.declared.judged.Judged.{Judged}
 use Rattle.rep_record.specs.Fronts.{fitting}
 use Rattle.rep_log.specs.declared.phase.Phase.TheVariants.{Resting}
-use Rattle.rep_engine.specs.Engines.{facts_of as engine_facts}
+use Rattle.rep_recover.specs.Engines.{facts_of as engine_facts}
 use Rattle.rep_replica.specs.Replicas.{Replica, IsReplica}
 use Rattle.rep_replica.specs.Refusing.{Gathers}
 use Rattle.rep_replica.specs.Holding.{Holds}

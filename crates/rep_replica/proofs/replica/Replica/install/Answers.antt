@@ -4,10 +4,10 @@ use Rattle.rep_types.specs.Windows.{Window}
 use Rattle.rep_types.specs.Settings.{Setting}
 use Rattle.rep_cert.specs.Holdings.{Holdings, IsAskable, window_of, made_at}
 use Rattle.rep_steps.specs.Nodes.{window_at}
-use Rattle.rep_checkpoint.specs.Coming.{blank, coming}
-use Rattle.rep_engine.specs.Engines.{Engine, facts_of as engine_facts}
-use Rattle.rep_engine.specs.Holding.{Holds as EngineHolds}
-use Rattle.rep_engine.specs.Installing.{Beside, CanBring, HoldsBoth as EngineHoldsBoth}
+use Rattle.rep_recover.specs.Coming.{blank, coming}
+use Rattle.rep_recover.specs.Engines.{Engine, facts_of as engine_facts}
+use Rattle.rep_recover.specs.Holding.{Holds as EngineHolds}
+use Rattle.rep_recover.specs.Installing.{Beside, CanBring, HoldsBoth as EngineHoldsBoth}
 use Rattle.rep_replica.specs.Replicas.{Replica, IsReplica}
 use Rattle.rep_replica.specs.Installing.{IsBringing}
 use Rattle.rep_replica.proofs.Settling.{is_running}

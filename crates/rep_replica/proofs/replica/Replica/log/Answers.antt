@@ -12,14 +12,14 @@ use Rattle.rep_steps.specs.declared.answer.Answer.TheVariants.{Refused}
 use Rattle.rep_steps.specs.Standings.{Standing, refusal, log_refusal}
 use Rattle.rep_steps.specs.Moves.{takes_memory, is_at_rest}
 use Rattle.rep_steps.specs.Parts.{with_ahead}
-use Rattle.rep_engine.specs.Engines.{Engine, IsEngine, facts_of as engine_facts, phase_at}
-use Rattle.rep_engine.specs.Accepting.{accepted_in, is_gathering, AcceptedItemsAreAFront}
-use Rattle.rep_engine.specs.Holding.{wrote}
+use Rattle.rep_recover.specs.Engines.{Engine, IsEngine, facts_of as engine_facts, phase_at}
+use Rattle.rep_recover.specs.Accepting.{accepted_in, is_gathering, AcceptedItemsAreAFront}
+use Rattle.rep_recover.specs.Holding.{wrote}
 use Rattle.rep_replica.specs.Replicas.{Replica, facts_of}
 use Rattle.rep_replica.specs.Refusing.{Gathers, RefusesUnchanged}
 use Rattle.rep_replica.specs.Holding.{IsStep}
 use Rattle.rep_log.specs.Standing.{Standing as LogStanding, due_of}
-use Rattle.rep_engine.specs.Writing.{written_in}
+use Rattle.rep_recover.specs.Writing.{written_in}
 use Rattle.rep_replica.specs.Settling.{outcome_of}
 use Rattle.rep_replica.proofs.Settling.{refused_done, wrote_done}
 use Rattle.rep_replica.proofs.Widening.{running_facts}

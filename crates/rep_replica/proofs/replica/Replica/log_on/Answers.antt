@@ -5,8 +5,8 @@ use Rattle.rep_log.specs.Standing.{due_of}
 use Rattle.rep_steps.specs.declared.event.Event.TheVariants.{Log, Sync}
 use Rattle.rep_steps.specs.Standings.{Standing, refusal_here}
 use Rattle.rep_steps.specs.Moves.{synced_stage}
-use Rattle.rep_engine.specs.Engines.{IsEngine}
-use Rattle.rep_engine.specs.Writing.{IsWrite}
+use Rattle.rep_recover.specs.Engines.{IsEngine}
+use Rattle.rep_recover.specs.Writing.{IsWrite}
 use Rattle.rep_replica.specs.Replicas.{Replica, ArePlaced, facts_of}
 use Rattle.rep_replica.proofs.Settling.{one_works, one_early, one_done, on_ok, still_running}
 use Rattle.rep_replica.proofs.LoggingOn.{can_log, log_due, sync_due, written_less, synced_less}

@@ -9,7 +9,7 @@ use Rattle.rep_steps.specs.declared.event.Event.TheVariants.{Check}
 use Rattle.rep_steps.specs.declared.answer.Answer.{Answer}
 use Rattle.rep_steps.specs.Standings.{Standing, Off}
 use Rattle.rep_steps.specs.Moves.{Found, after}
-use Rattle.rep_engine.specs.Engines.{IsEngine}
+use Rattle.rep_recover.specs.Engines.{IsEngine}
 use Rattle.rep_replica.specs.Replicas.{Replica, facts_of}
 use Rattle.rep_replica.specs.Holding.{IsStep}
 use Rattle.rep_replica.specs.Settling.{IsRunning, outcome_of, Works}

@@ -2,8 +2,8 @@ use Rattle.std.proofs.Common.{◌≡◌, true, false, refl, sym, ap, subst, ◌�
 use Rattle.std.specs.Prelude.{is_some}
 use Rattle.rep_types.proofs.Choices.{or_both}
 use Rattle.rep_steps.specs.declared.event.Event.TheVariants.{Read}
-use Rattle.rep_engine.specs.Engines.{Engine}
-use Rattle.rep_engine.specs.Holding.{row}
+use Rattle.rep_recover.specs.Engines.{Engine}
+use Rattle.rep_recover.specs.Holding.{row}
 use Rattle.rep_replica.specs.Replicas.{Replica}
 use Rattle.rep_replica.specs.Holding.{IsStep}
 use Rattle.rep_disk.specs.Leaving.{leaves_none}

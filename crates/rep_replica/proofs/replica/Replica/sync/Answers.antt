@@ -2,8 +2,8 @@ use Rattle.std.proofs.Common.{◌≤◌, length, refl, sym, ap, subst, ◌∙◌
 use Rattle.rep_steps.specs.declared.event.Event.TheVariants.{Sync}
 use Rattle.rep_steps.specs.declared.answer.Answer.{Answer}
 use Rattle.rep_steps.specs.Moves.{opening}
-use Rattle.rep_engine.specs.Engines.{phase_at, facts_of as engine_facts}
-use Rattle.rep_engine.specs.Holding.{synced}
+use Rattle.rep_recover.specs.Engines.{phase_at, facts_of as engine_facts}
+use Rattle.rep_recover.specs.Holding.{synced}
 use Rattle.rep_replica.specs.Replicas.{Replica}
 use Rattle.rep_replica.specs.Holding.{IsStep}
 use Rattle.rep_log.specs.Moves.{after_sync, started}

@@ -1,5 +1,5 @@
 use Rattle.std.proofs.Common.{ap, subst}
-use Rattle.rep_engine.specs.Engines.{IsEngine}
+use Rattle.rep_recover.specs.Engines.{IsEngine}
 use Rattle.rep_replica.specs.Replicas.{Replica}
 use Rattle.rep_replica.specs.Settling.{outcome_of}
 use Rattle.rep_replica.proofs.Turning.{rode_rides, ride_turn, sync_ended, sync_turn, sync_less}

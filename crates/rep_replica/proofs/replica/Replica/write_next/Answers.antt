@@ -5,7 +5,7 @@ use Rattle.rep_replica.specs.Committing.{Turns}
 use Rattle.std.specs.Prelude.{IfErr}
 use Rattle.rep_steps.specs.declared.event.Event.TheVariants.{Log}
 use Rattle.rep_steps.specs.Standings.{refusal_here}
-use Rattle.rep_engine.specs.Engines.{IsEngine}
+use Rattle.rep_recover.specs.Engines.{IsEngine}
 use Rattle.rep_replica.specs.Replicas.{Replica, ArePlaced, facts_of}
 use Rattle.rep_replica.specs.Settling.{IsRunning, EndsEarly}
 use Rattle.rep_replica.proofs.Settling.{one_early, still_running}
