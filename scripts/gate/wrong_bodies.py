@@ -5,6 +5,9 @@ beside the right one, as that of a function of another name with the same contra
 itself whether it is proved. Where there can be no such function, in an impl of a trait, or where an edit changes two, the wrong body takes the
 place of the right one, and of what calls it the prover says so: that counts for nothing here.
 
+An edit may name goals that are left (`left: GOAL ..`): there its copy has holes, since another goal refuses it at once, and the prover would look long for these
+in vain. Where none does, nothing is left.
+
 What a wrong body calls has no body there, and a hole in the place of its proof: the gate proves it anyway, and the wrong body's goals rest on its contract alone. So
 wrong bodies alone are checked. Where something else is refused beside holes, all are tried again without them; so are those wrong bodies of which nothing is told there.
 
@@ -117,8 +120,8 @@ def homes_of(crate):
 
 
 def holders_of(code):
-    """The impls and traits of a file: where each lies, what the prover calls it in a function's name, and the type where it is an impl of that
-    type alone, of no trait."""
+    """The impls and traits of a file: where each lies, what the prover calls it in a function's name, the type where it is an impl of that
+    type alone, of no trait, and whether it is a trait."""
     found = []
     for it in re.finditer(r"^(?:pub(?:\([^)]*\))? )?(?:unsafe )?(impl|trait)\b([^{;]*)\{", code, re.M):
         head = re.split(r"\bwhere\b", it[2])[0]
@@ -135,7 +138,7 @@ def holders_of(code):
         else:
             kind = words_of(outside_brackets(whole))[-1]
             name = "+".join([kind, *args(whole)])
-        found.append((it.start(), behind_brace(code, it.end() - 1), name, kind))
+        found.append((it.start(), behind_brace(code, it.end() - 1), name, kind, it[1] == "trait"))
     return found
 
 
@@ -147,7 +150,7 @@ def functions_of(file, text, homes):
     for it in re.finditer(r"\bfn (\w+)", code):
         body = body_of(code, it.end())
         if body:
-            holder = [(kind, name) for start, end, name, kind in holders if start <= it.start() < end][-1:]
+            holder = [(kind, name) for start, end, name, kind, _ in holders if start <= it.start() < end][-1:]
             parts = [homes.get(holder[0][0], module_of(file)), holder[0][1], it[1]] if holder else [module_of(file), it[1]]
             found.append((it.start(), *body, "::".join(it for it in parts if it)))
     return found
@@ -171,7 +174,7 @@ def brings_more(old, new):
 
 def span_of(file, text, function, homes):
     """Where a function of a file lies, with its attributes. None where it is one of a trait, or is proved with others."""
-    traits = [(start, end) for start, end, _, kind in holders_of(code_of(text)) if not kind]
+    traits = [(start, end) for start, end, _, kind, _ in holders_of(code_of(text)) if not kind]
     found = [(start, end) for start, _, end, name in functions_of(file, text, homes) if name == function]
     if len(found) != 1 or any(start <= found[0][0] < end for start, end in traits):
         return None
@@ -214,25 +217,25 @@ def calls_itself(crate, parts):
     return os.path.isdir(folder) and any(it.startswith("+") and parts[-1] in it.split("+") for it in os.listdir(folder))
 
 
-def has_own_words(text, start):
-    """Whether the function whose head is there has an attribute that says how it is proved."""
+def is_computed(text, start):
+    """Whether the function whose head is there is computed by the compiler, or has its proof with others."""
     attributes = re.search(r"(?:^[ \t]*#\[[^\n]*\]\n)*[^\n]*\Z", text[:start], re.M)
-    return bool(re.search(r"#\[(?:tactic|cycle)\b|\bconst\s+$", attributes[0])) or bool(re.search(r"\]\s*\Z", text[: attributes.start()]))
+    return bool(re.search(r"#\[cycle\b|\bconst\s+$", attributes[0])) or bool(re.search(r"\]\s*\Z", text[: attributes.start()]))
 
 
 def holes_of(crate, homes, texts):
     """The functions of a crate with these texts whose body and proof can go: each with its file, where its body lies, and the parts of its name. What
-    stands in a trait or a macro, is computed by the compiler, calls itself, says itself how it is proved, or is named by proofs of others, can't."""
+    stands in a trait or a macro, is computed by the compiler, calls itself, or is named by proofs of others, can't."""
     found = []
     for folder, _, files in os.walk(os.path.join(crate.folder, "src")):
         for name in files:
             file = os.path.relpath(os.path.join(folder, name), crate.folder)
             text = texts.get(file) or text_of(crate, file)
-            apart = macros_of(text) + [(start, end) for start, end, _, kind in holders_of(code_of(text)) if not kind]
+            apart = macros_of(text) + [(start, end) for start, end, _, _, is_trait in holders_of(code_of(text)) if is_trait]
             for head, start, end, function in functions_of(file, text, homes):
                 parts = function.split("::")
                 is_apart = any(first <= head and end <= last for first, last in apart) or calls_itself(crate, parts)
-                if not is_apart and not has_own_words(text, head) and not is_cited(crate, parts):
+                if not is_apart and not is_computed(text, head) and not is_cited(crate, parts):
                     found.append((file, start, end, parts))
     return found
 
@@ -242,7 +245,8 @@ def put_holes(crate, room, holes):
     for file, start, end, parts in sorted(holes, reverse=True):
         text = text_in(os.path.join(room, file))
         with open(os.path.join(room, file), "w", encoding="utf-8") as it:
-            it.write(text[:start] + "{ unreachable!() }" + text[end:])
+            # (as many lines as there were: what the prover notes is told by its line)
+            it.write(text[:start] + "{ unreachable!() " + "\n" * text.count("\n", start, end) + "}" + text[end:])
         place = os.path.join(room, "proofs", *parts)
         os.makedirs(place, exist_ok=True)
         for it in ("Answers.antt", "Invariants.antt"):
@@ -252,12 +256,24 @@ def put_holes(crate, room, holes):
             it.write(HOLE.format(module="Rattle." + crate.name + module_in_proofs(parts), name=parts[-1]))
 
 
+def without(goals, answers):
+    """The answers without those to these goals."""
+    kept, drops = [], False
+    for line in answers.split("\n"):
+        word = re.match(r"(?:pub )?([^\s:]+)", line)
+        if word and re.match(r"\w", word[1]) and word[1] != "unfolding":
+            drops = word[1] in goals
+        if not drops:
+            kept.append(line)
+    return "\n".join(kept)
+
+
 class Edit:
     """One wrong body: what it replaces, in which files, and the functions whose bodies that changes."""
 
     def __init__(self, crate, path, homes):
         self.path, self.name, self.homes = path, os.path.basename(path)[: -len(".edit")], homes
-        self.pairs, self.functions, self.is_apart, self.proofs = [], set(), False, None
+        self.pairs, self.functions, self.is_apart, self.proofs, self.left = [], set(), False, None, []
         texts, file, old = {}, None, None
         with open(path, encoding="utf-8") as it:
             lines = it.read().split("\n")
@@ -267,6 +283,8 @@ class Edit:
             if kind == "file":
                 file = text.strip()
                 texts.setdefault(file, text_of(crate, file))
+            elif kind == "left":
+                self.left = text.split()
             elif kind == "old":
                 old = text
             elif kind == "new" and old is not None:
@@ -323,6 +341,18 @@ class Edit:
                     with open(os.path.join(new, name), "w", encoding="utf-8") as it:
                         it.write(text)
 
+    def leave(self, crate, room):
+        """Puts holes in the places of the goals that are left, in this copy of the crate."""
+        for function in self.functions if self.left else ():
+            parts = function.split("::")
+            place = os.path.join(room, "proofs", *parts, "Answers.antt")
+            os.makedirs(os.path.dirname(place), exist_ok=True)
+            text = without(self.left, text_in(place))
+            if "Goals as goal" not in text:
+                text = "use Rattle.%s%sGoals as goal\n%s" % (crate.name, module_in_proofs(parts), text)
+            with open(place, "w", encoding="utf-8") as it:
+                it.write(text + "".join("\npub %s : goal.%s\n%s = ?\n" % (goal, goal, goal) for goal in self.left))
+
     def is_of(self, function):
         """Whether this is a function that the edit changes, or a closure in one."""
         function = function.replace("fn::", "")
@@ -358,7 +388,8 @@ class Said:
     def __init__(self, crate, homes, texts, text, over_holes):
         self.crate, self.homes, self.texts, self.over_holes, self.notes = crate, homes, texts, over_holes, collections.defaultdict(list)
         self.of = dict(re.findall(r"^fn %s::(\S+): (.*)$" % crate.name, text, re.M))
-        self.errors = re.findall(r"^\./proofs/(\S+)/\w+\.antt:\d+:\d+: error: (.*)$", text, re.M)
+        # (what an error names may stand in the lines below it)
+        self.errors = re.findall(r"^\./proofs/(\S+)/\w+\.antt:\d+:\d+: error: (.*(?:\n  .*)*)", text, re.M)
         self.places = {it.replace("/fn/", "/") for it in re.findall(r"^\./(\S+?)(?::\d+:\d+)?: error\b", text, re.M)}
         for file, line, note in re.findall(r"^note: (src/\S+?):(\d+):\d+: (it is not proved .*)$", text, re.M):
             self.notes[self.function_at(file, int(line))].append(note)
@@ -497,6 +528,8 @@ class Tries:
                     it.write(text)
             for edit in planted:
                 edit.put_proofs(room)
+                if holes:
+                    edit.leave(self.crate, room)
             put_holes(self.crate, room, holes)
             whole = [*self.before, *rtlib.guarded(), rtlib.RATTLE, "check", *self.crate.words(["--jobs", "1"], keeps=False), "--incremental", self.kept, *["--allow-holes"] * bool(holes), *words]
             with open(os.path.join(room, "said"), "w+b") as out:
@@ -529,7 +562,7 @@ class Tries:
 
     def tell(self, edit, why):
         self.refused += 1
-        self.say("%s/%s: refused: %s" % (self.crate.name, edit.name, why[:200]))
+        self.say("%s/%s: refused: %s" % (self.crate.name, edit.name, " ".join(why.split())[:200]))
 
 
 def module_of_name(function):
