@@ -1,4 +1,4 @@
-use Rattle.std.proofs.Common.{◌+◌, ◌∙◌, List, length, refl, ap}
+use Rattle.std.proofs.Common.{rules, ◌+◌, ◌∙◌, List, length, refl, ap}
 use Rattle.rep_types.specs.declared.judged.Judged.{Judged}
 use Rattle.rep_engine.specs.Engines.{Engine, durable_of}
 use Rattle.rep_node.specs.Homes.{Start}
@@ -31,3 +31,6 @@ returns-clause-given g c = λ s items w. c.publish_durable.ensures.given s items
 pub returns-clause-common : goal.returns-clause-common
 returns-clause-common g c = let w = c.requires.work in
     ap (λ (e : Engine g.row.D.Denot). durable_of e.log + length e.block) c.publish_durable.ensures.engine ∙ same_common g.D.Disk w.0 w.1 c.args.desk w.2 c.write_or_sync.new.engine (rw c.get_mut.ensures.value at c.in_default.ensures.taken)
+
+pub returns-in-Err-clause-works : goal.returns-in-Err-clause-works
+returns-in-Err-clause-works g c = search rules

@@ -32,3 +32,9 @@ loop-preserved g c = let idle = kept g (goal.at.loop-preserved g c).After-keep_o
 
 pub loop-init : goal.loop-init
 loop-init g c = (refl, went_same c.args.seat.now.view c.requires.free, refl, refl, refl)
+
+pub returns-then-kept-upto-clause-kept : goal.returns-then-kept-upto-clause-kept
+returns-then-kept-upto-clause-kept g c = search rules
+
+pub returns-then-kept-upto-clause-full : goal.returns-then-kept-upto-clause-full
+returns-then-kept-upto-clause-full g c = search rules

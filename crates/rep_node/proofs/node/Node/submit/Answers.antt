@@ -1,4 +1,5 @@
 use Rattle.std.proofs.Common.{rules, ◌≡◌, ℕ, ◌<◌, arith, ap, ◌∙◌}
+use Rattle.std.proofs.lemmas.Grind.{common_steps}
 use Rattle.rep_types.specs.declared.judged.Judged.{Judged}
 use Rattle.rep_ordered.specs.declared.view.View.{View}
 use Rattle.rep_ordered.specs.Seats.{Place}
@@ -87,3 +88,9 @@ returns-clause-passed g c =
     let third = ap (λ (z : View (Home g.row.D.Denot) Judged). reached_at 2 z.reached) c.paced-3.ensures.later.same in
     let last = c.wait_durable-2.ensures.idle.0.goes.reached 2 in
     passed_next _ _ _ all.went all.own (let here : c.claim-ticket.result < reached_at 2 c.wait_durable-2.new.seat.view.reached = omega arith in here)
+
+pub returns-clause-receipt : goal.returns-clause-receipt
+returns-clause-receipt g c = grind (arith, common_steps)
+
+pub returns-clause-paced : goal.returns-clause-paced
+returns-clause-paced g c = search rules

@@ -1,4 +1,5 @@
 use Rattle.std.proofs.Common.{rules, ◌≡◌, ℕ, ◌+◌, ◌<◌, [], ◌∷◌, ◌++◌, arith, sym, ◌∙◌, subst}
+use Rattle.std.proofs.lemmas.Grind.{common_steps}
 use Rattle.std.specs.Prelude.{slice_get, Some}
 use Rattle.rep_node.specs.declared.batch.Receipt.{Receipt}
 use Rattle.rep_node.specs.Batches.{AreLetOn}
@@ -42,3 +43,6 @@ loop-place-preserved g c = let inv = c.loop-place.invariant in let ready = c.req
           (at_next g.D.Disk c.args.items.now c.args.job.now.from place c.in-Ok.seqno c.in-Ok.verdict c.index-items-place.result c.args.job.now.seat.view c.loop-place.job.seat.view c.submit.new.seat.view c.loop-place.job.receipts.items inv.8
           (let n = inv.8.all.count in omega arith) at (subst (λ n. Rattle.rep_node.specs.Seats.DrewOne g.D.Disk n c.loop-place.job.seat.view c.submit.new.seat.view) (sym number) drew) c.submit.ensures.passed c.in-Ok.ensures.receipt),
     )
+
+pub returns : goal.returns
+returns g c = grind (arith, common_steps)
