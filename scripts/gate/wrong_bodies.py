@@ -32,9 +32,6 @@ ALONE, TOGETHER, MORE = "must-fail", "must-fail-together", "must-fail-more"
 # What a proof file says where it names something that an edit took away, or answers a goal that asks for nothing any more.
 OF_NAMES = re.compile(r"has no field|is not in scope|has no `|was not admitted|binders, but its type has room")
 
-# What is said of a wrong body that only such a name refused.
-NAME_GONE = "only for a name that is gone"
-
 # A proof that is a hole: it is taken by what it states.
 HOLE = """use {module}Statement.{{statement}}
 
@@ -388,8 +385,9 @@ def changed(crate, edits):
 class Said:
     """What the prover said of each function, of a copy of the crate with these texts."""
 
-    def __init__(self, crate, homes, texts, text, over_holes):
+    def __init__(self, crate, homes, texts, text, planted, over_holes):
         self.crate, self.homes, self.texts, self.over_holes, self.notes = crate, homes, texts, over_holes, collections.defaultdict(list)
+        self.left = {function: {*edit.left} for edit in planted if over_holes for function in edit.functions}
         self.of = dict(re.findall(r"^fn %s::(\S+): (.*)$" % crate.name, text, re.M))
         # (what an error names may stand in the lines below it)
         self.errors = re.findall(r"^\./proofs/(\S+)/\w+\.antt:\d+:\d+: error: (.*(?:\n  .*)*)", text, re.M)
@@ -417,7 +415,7 @@ class Said:
         return all(any(place.startswith(it) for it in own) for place in self.places)
 
     def why(self, function):
-        """What refused the function for itself: the first goal of its own that is open. Where there is none, it may be a name that is gone. None where nothing did."""
+        """What refused the function for itself: the first goal of its own that is open, and not for a name that is gone. None where nothing did."""
         told = self.of[function]
         without = re.match(r"no proof: expected answers in \S+ `?search`? did not prove (.*?)(?:;|$)", told)
         if without:
@@ -425,13 +423,13 @@ class Said:
         if not told.startswith("not proved"):
             return None
         errors = [why for path, why in self.errors if path == function.replace("::", "/")]
-        own = [it for it in errors if not OF_NAMES.search(it)] + self.notes[function]
-        if own or told == "not proved" and not errors:
-            return own[0] if own else "a goal of its own"
-        # (a name that is gone says little of the contract. Where the first line does not tell so, it counts, and is said to be one: such a wrong body is to be
-        # written anew, or to have that goal left)
-        gone = [it for it in errors if not OF_NAMES.search(it.partition("\n")[0])]
-        return "%s: %s" % (NAME_GONE, gone[0]) if gone else None
+        own = [it for it in errors if not OF_NAMES.search(it) and self.is_of_a_goal(function, it)] + self.notes[function]
+        return own[0] if own else "a goal of its own" if told == "not proved" and not errors else None
+
+    def is_of_a_goal(self, function, error):
+        """Whether the error is of an answer to a goal, and to none that is left."""
+        named = re.match(r"`([^`]+)`: ", error)
+        return bool(named) and named[1] not in self.left.get(function, ())
 
 
 class Tries:
@@ -493,7 +491,7 @@ class Tries:
             own = [(it, why[it]) for it in said.of if edit.is_of(it) and why[it]]
             if own:
                 found[edit.name] = "%s: %s" % own[0]
-        spilled = [it for it in said.of if why[it] and not why[it].startswith(NAME_GONE) and not any(edit.is_of(it) for edit in planted)]
+        spilled = [it for it in said.of if why[it] and not any(edit.is_of(it) for edit in planted)]
         if spilled:
             self.say("%s: %s is refused beside them, which has no edit: each is tried alone" % (self.crate.name, spilled[0]))
             return {}, planted
@@ -519,7 +517,7 @@ class Tries:
             if missing and missing[1] in names:
                 names = sorted({*names, module_of_name(missing[1])} - {missing[1]})
                 continue
-            said = Said(self.crate, self.homes, texts, text, bool(holes))
+            said = Said(self.crate, self.homes, texts, text, planted, bool(holes))
             if not holes or said.of and said.is_only_of(planted):
                 return said
             holes = []
