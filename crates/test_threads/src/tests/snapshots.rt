@@ -17,71 +17,165 @@ fn four_readers_beside_a_publisher_find_the_rows_of_the_list(rt: HostRuntime) ->
     Ok(())
 }
 
-/// What the reader finds of the row at 0, 1, 2, 3 and 4.
-fn five_peeks(reader: Reader<Free>, row: Key) -> (Reader<Free>, [Result<Peek, Refusal>; 5])
-    ensures { result.0.book ≡ reader.book }
-{
-    let (reader, at_0) = reader.peek(row, 0);
-    let (reader, at_1) = reader.peek(row, 1);
-    let (reader, at_2) = reader.peek(row, 2);
-    let (reader, at_3) = reader.peek(row, 3);
-    let (reader, at_4) = reader.peek(row, 4);
-    (reader, [at_0, at_1, at_2, at_3, at_4])
+/// The row that is put and deleted, and one that nothing is done to.
+const ROW: Key = Key { table: 0, row: 1 };
+
+const OTHER: Key = Key { table: 0, row: 2 };
+
+/// A change that a publisher makes: of the row at a seqno, or of none there, or of the list.
+#[derive(Clone, Copy)]
+enum Change {
+    Put(u64, u8),
+    Delete(u64),
+    Nothing(u64),
+    Prune(u64),
 }
 
-fn value(byte: u8) -> Result<Peek, Refusal> {
-    Value::new(&[byte]).map(Peek::Value)
+/// What a reader finds of a row: this byte alone, or others.
+#[derive(Clone, Copy, PartialEq, Eq)]
+enum Found {
+    Cold,
+    Absent,
+    Put(u8),
+    Others,
+    Refused(Refusal),
 }
+
+/// What a reader was answered.
+fn found_by(peek: Result<Peek, Refusal>) -> Found {
+    match peek {
+        Ok(Peek::Cold) => Found::Cold,
+        Ok(Peek::Absent) => Found::Absent,
+        Ok(Peek::Value(value)) => match value.as_bytes() {
+            [byte] => Found::Put(*byte),
+            _ => Found::Others,
+        },
+        Err(refusal) => Found::Refused(refusal),
+    }
+}
+
+/// What a reader finds of the row at 0, 1, 2, 3 and 4.
+type Five = (Found, Found, Found, Found, Found);
+
+fn five_peeks(reader: Reader<Free>) -> (Reader<Free>, Five)
+    ensures { result.0.book ≡ reader.book }
+{
+    let (reader, at_0) = reader.peek(ROW, 0);
+    let (reader, at_1) = reader.peek(ROW, 1);
+    let (reader, at_2) = reader.peek(ROW, 2);
+    let (reader, at_3) = reader.peek(ROW, 3);
+    let (reader, at_4) = reader.peek(ROW, 4);
+    (
+        reader,
+        (
+            found_by(at_0),
+            found_by(at_1),
+            found_by(at_2),
+            found_by(at_3),
+            found_by(at_4),
+        ),
+    )
+}
+
+/// Makes a change, and says whether it was made.
+fn changed<R: Wait>(rt: &R, steady: Steady, change: Change) -> (Steady, bool)
+    ensures { result.0.publisher.book ≡ steady.publisher.book }
+{
+    let (steady, done) = match change {
+        Change::Put(seqno, byte) => steady.put(rt, seqno, ROW, Value::new(&[byte]).ok()),
+        Change::Delete(seqno) => steady.put(rt, seqno, ROW, None),
+        Change::Nothing(seqno) => steady.publish(rt, seqno, &[]),
+        Change::Prune(position) => steady.prune(rt, position),
+    };
+    (steady, done.is_ok())
+}
+
+/// A publisher, and a reader of its own.
+struct Watched {
+    steady: Steady,
+    reader: Reader<Free>,
+    ghost own: { reader.book ≡ steady.publisher.book },
+}
+
+impl Watched {
+    /// One that starts at 0.
+    fn start<R: Wait>(rt: &R, alloc: Global) -> Result<Watched, Refusal> {
+        let mut steady = Steady::start(alloc, rt, 0, 1)?;
+        match steady.reader() {
+            Ok(reader) => Ok(Watched { steady, reader }),
+            Err(refusal) => {
+                steady.close(rt);
+                Err(refusal)
+            }
+        }
+    }
+
+    /// Makes a change, which the reader learns of, and says whether it was made and the reader then finds this of the row at 0, 1, 2, 3 and 4.
+    fn finds<R: Wait>(self, rt: &R, change: Change, wanted: Five) -> (Watched, bool) {
+        let Watched { steady, mut reader } = self;
+        let (steady, done) = changed(rt, steady, change);
+        reader.learn(&steady.tell());
+        let (reader, found) = five_peeks(reader);
+        (Watched { steady, reader }, done && found == wanted)
+    }
+
+    /// What the reader finds of the other row at 4, of the row once the publisher is closed, and its front then.
+    fn ended<R: Wait>(self, rt: &R) -> (Found, Found, u64) {
+        let Watched { steady, reader } = self;
+        let (reader, other) = reader.peek(OTHER, 4);
+        steady.close(rt);
+        let (reader, closed) = reader.peek(ROW, 4);
+        let (_reader, front) = reader.front();
+        (found_by(other), found_by(closed), front)
+    }
+}
+
+const A: Found = Found::Put(b'a');
+
+const B: Found = Found::Put(b'b');
+
+const TOO_OLD: Found = Found::Refused(Refusal::TooOld { oldest: 2 });
+
+const NOT_YET_AT_1: Found = Found::Refused(Refusal::NotYet { durable: 1 });
+
+const NOT_YET_AT_2: Found = Found::Refused(Refusal::NotYet { durable: 2 });
+
+const NOT_YET_AT_3: Found = Found::Refused(Refusal::NotYet { durable: 3 });
+
+/// Changes, and what a reader finds of the row behind each of them at 0, 1, 2, 3 and 4.
+const CHANGES: &[(Change, Five)] = &[
+    (
+        Change::Put(1, b'a'),
+        (Found::Cold, A, NOT_YET_AT_1, NOT_YET_AT_1, NOT_YET_AT_1),
+    ),
+    (
+        Change::Put(2, b'b'),
+        (Found::Cold, A, B, NOT_YET_AT_2, NOT_YET_AT_2),
+    ),
+    (
+        Change::Delete(3),
+        (Found::Cold, A, B, Found::Absent, NOT_YET_AT_3),
+    ),
+    (
+        Change::Prune(2),
+        (TOO_OLD, TOO_OLD, Found::Cold, Found::Absent, NOT_YET_AT_3),
+    ),
+    (
+        Change::Nothing(4),
+        (TOO_OLD, TOO_OLD, Found::Cold, Found::Absent, Found::Absent),
+    ),
+];
 
 #[test]
 fn peeks_of_a_row_that_is_put_and_deleted(rt: HostRuntime) -> Result<(), Fail> {
-    let (row, other) = (Key { table: 0, row: 1 }, Key { table: 0, row: 2 });
-    let steady = Steady::start(rt.alloc(), &rt, 0, 1)?;
-    let (steady, first) = steady.put(&rt, 1, row, Value::new(&[0x61]).ok());
-    let (steady, second) = steady.put(&rt, 2, row, Value::new(&[0x62]).ok());
-    let (mut steady, third) = steady.put(&rt, 3, row, None);
-    assert!(rt; first.is_ok() && second.is_ok() && third.is_ok());
-    let mut reader = steady.reader().expect(&rt, "a reader");
-    reader.learn(&steady.tell());
-    let (reader, peeks) = five_peeks(reader, row);
-    assert_eq!(rt;
-        peeks,
-        [
-            Ok(Peek::Cold),
-            value(0x61),
-            value(0x62),
-            Ok(Peek::Absent),
-            Err(Refusal::NotYet { durable: 3 })
-        ]
-    );
-    let (reader, elsewhere) = reader.peek(other, 3);
-    assert_eq!(rt; elsewhere, Ok(Peek::Cold));
-    let (steady, pruned) = steady.prune(&rt, 2);
-    assert!(rt; pruned.is_ok());
-    let mut reader = reader;
-    reader.learn(&steady.tell());
-    let (reader, peeks) = five_peeks(reader, row);
-    assert_eq!(rt;
-        peeks,
-        [
-            Err(Refusal::TooOld { oldest: 2 }),
-            Err(Refusal::TooOld { oldest: 2 }),
-            Ok(Peek::Cold),
-            Ok(Peek::Absent),
-            Err(Refusal::NotYet { durable: 3 })
-        ]
-    );
-    let (steady, fourth) = steady.publish(&rt, 4, &[]);
-    assert!(rt; fourth.is_ok());
-    let mut reader = reader;
-    reader.learn(&steady.tell());
-    let (reader, front) = reader.front();
-    let (reader, at_4) = reader.peek(row, 4);
-    assert_eq!(rt; (front, at_4), (4, Ok(Peek::Absent)));
-    steady.close(&rt);
-    let (reader, closed) = reader.peek(row, 4);
-    let (_reader, front) = reader.front();
-    assert_eq!(rt; (closed, front), (Err(Refusal::Closed), 4));
+    let mut watched = Watched::start(&rt, rt.alloc())?;
+    for (change, wanted) in CHANGES {
+        let (next, finds) = watched.finds(&rt, *change, *wanted);
+        watched = next;
+        assert!(rt; finds);
+    }
+    let closed = Found::Refused(Refusal::Closed);
+    assert!(rt; watched.ended(&rt) == (Found::Cold, closed, 4));
     Ok(())
 }
 

@@ -130,32 +130,26 @@ fn long(
     Ok(told(&read_request(&line, 7)))
 }
 
-// The text of an item has at most 4,096 bytes, and any other line too.
+/// What a line begins with, the byte behind it, as often as it takes, the line's length, and what is told of it. The text of an item has at most 4,096 bytes,
+/// and any other line too.
+const LONG: &[(&str, u8, usize, (&str, u64))] = &[
+    ("12 item 0 w 0/1=61", b' ', 3 + 4096, ("published", 12)),
+    ("12 item 0 w 0/1=61", b' ', 3 + 4097, ("no effect", 12)),
+    ("12 item 0 w 0/1=61", b' ', 8192, ("no effect", 12)),
+    ("0", b'0', 8192, ("broken", 0)),
+    ("item 0 w 0/1=61", b' ', 4096, ("stated", 0)),
+    ("item 0 w 0/1=61", b' ', 4097, ("refused", 16)),
+    ("", b' ', 4097, ("refused", 16)),
+];
+
 #[test]
 fn a_long_line_is_held_to_its_limit(rt: HostRuntime) {
-    let alloc = rt.alloc();
-    assert_eq!(rt;
-        long(alloc, "12 item 0 w 0/1=61", b' ', 3 + 4096),
-        Ok(("published", 12))
-    );
-    assert_eq!(rt;
-        long(alloc, "12 item 0 w 0/1=61", b' ', 3 + 4097),
-        Ok(("no effect", 12))
-    );
-    assert_eq!(rt;
-        long(alloc, "12 item 0 w 0/1=61", b' ', 8192),
-        Ok(("no effect", 12))
-    );
-    assert_eq!(rt; long(alloc, "0", b'0', 8192), Ok(("broken", 0)));
-    assert_eq!(rt;
-        long(alloc, "item 0 w 0/1=61", b' ', 4096),
-        Ok(("stated", 0))
-    );
-    assert_eq!(rt;
-        long(alloc, "item 0 w 0/1=61", b' ', 4097),
-        Ok(("refused", 16))
-    );
-    assert_eq!(rt; long(alloc, "", b' ', 4097), Ok(("refused", 16)));
+    for (front, filler, length, wanted) in LONG {
+        assert!(rt;
+            long(rt.alloc(), front, *filler, *length) == Ok(*wanted),
+            "{length} bytes from {front}"
+        );
+    }
 }
 
 /// The first lines of a text, and whether they are the position of an order.
