@@ -5,6 +5,9 @@ beside the right one, as that of a function of another name with the same contra
 itself whether it is proved. Where there can be no such function, in an impl of a trait, or where an edit changes two, the wrong body takes the
 place of the right one, and of what calls it the prover says so: that counts for nothing here.
 
+An edit may name the goal that refuses it (`by: GOAL`). Its copy has the answer to that goal alone, and no tactic is tried at the others. The same answer proves
+the right body there, which the gate sees as it proves the crate. Where that does not refuse it, it is tried with all answers, and a search where there is none.
+
 An edit may name goals that are left (`left: GOAL ..`): there its copy has holes, since another goal refuses it at once, and the prover would look long for these
 in vain. Where none does, nothing is left.
 
@@ -268,12 +271,61 @@ def without(goals, answers):
     return "\n".join(kept)
 
 
+def declarations_of(answers):
+    """What an answers file declares, by its names, each with the comments above it; and what it imports."""
+    found, imports, name, above = {}, [], None, []
+    for line in answers.split("\n"):
+        word = re.match(r"(?:pub )?(?:abbrev )?(?:pub )?([^\s:]+)", line)
+        if line.startswith("use "):
+            imports.append(line)
+        elif not line.strip() or line.startswith("--"):
+            above.append(line)
+        elif word and word[1] not in (name, "unfolding"):
+            name = word[1]
+            found[name], above = above + [line], []
+        else:
+            found[name] += above + [line]
+            above = []
+    return {name: "\n".join(lines).strip("\n") for name, lines in found.items()}, imports
+
+
+def names_in(text):
+    """The names in a text of antt."""
+    return set(re.findall(r"[^\s(){}\[\].,;]+", text))
+
+
+def needed(line, names):
+    """The line of imports without what none of these names is; nothing where nothing is left."""
+    module, brace, given = line.partition("{")
+    if not brace:
+        return line
+    kept = [it.strip() for it in given.rstrip(" }").split(",") if it.strip().split(" as ")[-1] in names or "◌" in it]
+    return "%s{%s}" % (module, ", ".join(kept)) if kept else ""
+
+
+def alone(goal, answers):
+    """The answers with that to this goal alone, and what it names of the others. None where there is none."""
+    declared, imports = declarations_of(answers)
+    kept, left = {}, [goal]
+    while left:
+        name = left.pop()
+        if name in declared and name not in kept:
+            kept[name] = declared[name]
+            left += names_in(declared[name])
+    if goal not in kept:
+        return None
+    texts = [kept[it] for it in declared if it in kept]
+    names = names_in("\n".join(texts))
+    lines = [needed(line, names) for line in imports]
+    return "\n\n".join(["\n".join(it for it in lines if it), *texts]) + "\n"
+
+
 class Edit:
     """One wrong body: what it replaces, in which files, and the functions whose bodies that changes."""
 
     def __init__(self, crate, path, homes):
         self.path, self.name, self.homes = path, os.path.basename(path)[: -len(".edit")], homes
-        self.pairs, self.functions, self.is_apart, self.proofs, self.left = [], set(), False, None, []
+        self.pairs, self.functions, self.is_apart, self.proofs, self.left, self.by, self.is_narrow = [], set(), False, None, [], None, False
         texts, file, old = {}, None, None
         with open(path, encoding="utf-8") as it:
             lines = it.read().split("\n")
@@ -285,6 +337,8 @@ class Edit:
                 texts.setdefault(file, text_of(crate, file))
             elif kind == "left":
                 self.left = text.split()
+            elif kind == "by":
+                self.by = text.strip()
             elif kind == "old":
                 old = text
             elif kind == "new" and old is not None:
@@ -309,9 +363,9 @@ class Edit:
         else:
             self.is_apart = True
 
-    def beside(self, crate, number):
+    def beside(self, crate, number, is_narrow=False):
         """The same wrong body, as that of a copy of its function that stands beside it; None where there can be none. So two wrong bodies of one
-        function can be tried together: a copy has the function's contract and answers."""
+        function can be tried together: a copy has the function's contract and answers; a narrow one that to the goal which refuses it alone, and no tactic."""
         own = {file for file, old, new in self.pairs if not brings_more(old, new)}
         if self.is_apart or len(self.functions) != 1 or len(own) != 1:
             return None
@@ -320,11 +374,16 @@ class Edit:
         span = span_of(file, text, function, self.homes)
         if not span or is_cited(crate, parts) or calls_itself(crate, parts):
             return None
+        if is_narrow and not (self.by and alone(self.by, text_of(crate, os.path.join("proofs", *parts, "Answers.antt")))):
+            return None
         whole = wrong = text[slice(*span)]
         for _, old, new in (it for it in self.pairs if it[0] == file and not brings_more(*it[1:])):
             wrong = wrong.replace(old, new)
+        if is_narrow:
+            wrong = "#[tactic(none)]\n" + re.sub(r"^[ \t]*#\[tactic\([^\n]*\)\]\n", "", wrong, count=1, flags=re.M)
         name = "%s_tried_%d" % (parts[-1], number)
         copied = copy.copy(self)
+        copied.is_narrow = is_narrow
         copied.pairs = [it for it in self.pairs if brings_more(*it[1:])]
         copied.pairs.append((file, whole, whole + "\n\n" + re.sub(r"\bfn %s\b" % parts[-1], "fn " + name, wrong, count=1)))
         copied.functions, copied.proofs = {"::".join(parts[:-1] + [name])}, (parts, parts[:-1] + [name])
@@ -337,13 +396,16 @@ class Edit:
             if os.path.isdir(old):
                 shutil.copytree(old, new)
                 for name in os.listdir(new):
-                    text = text_in(os.path.join(new, name)).replace(module_in_proofs(self.proofs[0]), module_in_proofs(self.proofs[1]))
+                    text = text_in(os.path.join(new, name))
+                    if self.is_narrow and name == "Answers.antt":
+                        text = alone(self.by, text)
+                    text = text.replace(module_in_proofs(self.proofs[0]), module_in_proofs(self.proofs[1]))
                     with open(os.path.join(new, name), "w", encoding="utf-8") as it:
                         it.write(text)
 
     def leave(self, crate, room):
         """Puts holes in the places of the goals that are left, in this copy of the crate."""
-        for function in self.functions if self.left else ():
+        for function in self.functions if self.left and not self.is_narrow else ():
             parts = function.split("::")
             place = os.path.join(room, "proofs", *parts, "Answers.antt")
             os.makedirs(os.path.dirname(place), exist_ok=True)
@@ -388,6 +450,7 @@ class Said:
     def __init__(self, crate, homes, texts, text, planted, over_holes):
         self.crate, self.homes, self.texts, self.over_holes, self.notes = crate, homes, texts, over_holes, collections.defaultdict(list)
         self.left = {function: {*edit.left} for edit in planted if over_holes for function in edit.functions}
+        self.by = {function: edit.by for edit in planted if edit.is_narrow for function in edit.functions}
         self.of = dict(re.findall(r"^fn %s::(\S+): (.*)$" % crate.name, text, re.M))
         # (what an error names may stand in the lines below it)
         self.errors = re.findall(r"^\./proofs/(\S+)/\w+\.antt:\d+:\d+: error: (.*(?:\n  .*)*)", text, re.M)
@@ -417,6 +480,8 @@ class Said:
     def why(self, function):
         """What refused the function for itself: the first goal of its own that is open, and not for a name that is gone. None where nothing did."""
         told = self.of[function]
+        if function in self.by:
+            return next((why for path, why in self.errors if path == function.replace("::", "/") and why.startswith("`%s`: " % self.by[function])), None)
         without = re.match(r"no proof: expected answers in \S+ `?search`? did not prove (.*?)(?:;|$)", told)
         if without:
             return "no proof of " + without[1]
@@ -440,7 +505,8 @@ class Tries:
         command line."""
         self.kit, self.crate, self.say, self.kept, self.homes, self.before = kit, crate, say, None, homes_of(crate), before
         edits = [Edit(crate, path, self.homes) for path in [*paths, *same]]
-        self.edits, self.same = [it.beside(crate, number) or it for number, it in enumerate(edits)], {*same}
+        self.wide = {it.name: it.beside(crate, number) or it for number, it in enumerate(edits)}
+        self.edits, self.same = [it.beside(crate, number, True) or self.wide[it.name] for number, it in enumerate(edits)], {*same}
         self.refused, self.missed, self.passed, self.spent, self.rounds = 0, set(), set(), 0.0, 0
 
     def all(self):
@@ -464,6 +530,8 @@ class Tries:
                     self.tell(edit, found[edit.name])
             apart += others
             left = [it for it in left if it.name not in found and it not in others]
+            # (what one goal did not refuse is tried with all)
+            left = [self.wide[it.name] if it.is_narrow and it in planted else it for it in left]
         for edit in apart:
             if edit.path not in self.same:
                 self.alone(edit)
@@ -497,7 +565,7 @@ class Tries:
             return {}, planted
         waits = [it for it in planted if it.name not in found and any(it.is_of(name) and "it calls" in told for name, told in said.of.items())]
         self.passed |= {it.path for it in planted if it.path in self.same and said.are_proved(it)}
-        others = [it for it in planted if it.name not in found and (it not in waits or not found)]
+        others = [it for it in planted if it.name not in found and not it.is_narrow and (it not in waits or not found)]
         wrong = [it for it in others if it.path not in self.same]
         if said.over_holes and wrong:
             # (over holes nothing is told of a goal whose name the answers miss)

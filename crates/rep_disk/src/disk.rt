@@ -3,19 +3,12 @@ ghost use Rattle.std.specs.Prelude.{◌≡◌, ◌+◌, ◌≤◌, ℕ, length};
 ghost use Rattle.rep_disk.specs.History.{History, stable};
 ghost use Rattle.rep_disk.specs.Calls.{IsRead, IsWrite, IsSync};
 
-use std::fmt;
+use thiserror::Error;
 
 /// The device failed during this call: its count of failures rose.
-#[derive(Clone, Copy, Debug, PartialEq, Eq)]
+#[derive(Clone, Copy, Debug, PartialEq, Eq, Error)]
+#[error("the device failed")]
 pub struct DiskFault;
-
-impl fmt::Display for DiskFault {
-    fn fmt<W: fmt::Write>(&self, f: &mut fmt::Formatter<W>) -> fmt::Result {
-        f.write_str("the device failed")
-    }
-}
-
-impl std::error::Error for DiskFault {}
 
 /// A device of a fixed size, in bytes.
 ///

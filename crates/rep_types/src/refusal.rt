@@ -2,100 +2,87 @@
 
 ghost use Rattle.std.specs.Prelude.{◌≡◌};
 ghost use Rattle.rep_types.specs.declared.refusal.Refusal.TheVariants.{OutOfMemory};
-ghost use Rattle.rep_types.specs.Refusals.{refusal_number};
+ghost use Rattle.rep_types.specs.Refusals.{refusal_number, part_name, refusal_name, refusal_data};
 
 use std::alloc::{AllocError, AllocFailed};
-use thiserror::Error;
+use std::error::Error;
+use std::fmt;
 
 /// A part of the disk whose bytes are not of their form.
-#[derive(Clone, Copy, Debug, PartialEq, Eq, Error)]
+#[derive(Clone, Copy, Debug, PartialEq, Eq)]
 pub enum Part {
-    #[error("superblock")]
     Superblock,
-    #[error("window")]
     Window,
-    #[error("log")]
     Log,
-    #[error("pages")]
     Pages,
 }
 
-/// Why a call was refused. It shows itself as its name and its data.
-#[derive(Clone, Copy, Debug, PartialEq, Eq, Error)]
+impl Part {
+    /// What the part is called.
+    pub fn name(self) -> &'static str
+        ensures { result.now ≡ part_name self }
+    {
+        match self {
+            Part::Superblock => "superblock",
+            Part::Window => "window",
+            Part::Log => "log",
+            Part::Pages => "pages",
+        }
+    }
+}
+
+/// Why a call was refused. It shows itself as its name, and behind a space its data where it has some.
+#[derive(Clone, Copy, Debug, PartialEq, Eq)]
 pub enum Refusal {
     /// A growth of memory was refused.
-    #[error("out-of-memory")]
     OutOfMemory,
     /// The device failed during this call.
-    #[error("disk-fault")]
     DiskFault,
     /// The engine met a device fault, or the node was halted.
-    #[error("stopped")]
     Stopped,
     /// The seqno is not the next one, which is `expected`.
-    #[error("out-of-order {expected}")]
     OutOfOrder { expected: u64 },
     /// `MAX_AHEAD` (256) items are delivered and not yet durable.
-    #[error("backlogged")]
     Backlogged,
     /// The next cell of the log is still needed.
-    #[error("log-full")]
     LogFull,
     /// Nothing of this kind is due.
-    #[error("not-due")]
     NotDue,
     /// The snapshot is below what is kept: the oldest state that can be read is that after `oldest`
     /// items.
-    #[error("too-old {oldest}")]
     TooOld { oldest: u64 },
     /// The snapshot is above what is durable, which is the first `durable` items.
-    #[error("not-yet {durable}")]
     NotYet { durable: u64 },
     /// A key is outside the schema.
-    #[error("bad-key")]
     BadKey,
     /// The node has the undefined UUID.
-    #[error("undefined")]
     Undefined,
     /// The device is too small to be formatted, or no superblock stands open.
-    #[error("not-formatted")]
     NotFormatted,
     /// Bytes of this part of the disk are not of their form.
-    #[error("corrupt {part}")]
     Corrupt { part: Part },
     /// The device is smaller than the `need` bytes that it must have.
-    #[error("too-small {need}")]
     TooSmall { need: u64 },
     /// The window, the log or the schema is outside the limits.
-    #[error("bad-params")]
     BadParams,
     /// Text or bytes are not of their form. What `at` counts is said at the call: the line of a text,
     /// from 1; a byte, from 0; or an entry of a write set, from 0 in the reads followed by the writes.
-    #[error("malformed {at}")]
     Malformed { at: u64 },
     /// More than `MAX_READS` (16) reads.
-    #[error("too-many-reads")]
     TooManyReads,
     /// More than `MAX_WRITES` (16) writes.
-    #[error("too-many-writes")]
     TooManyWrites,
     /// A value of more than `MAX_VALUE` (62) bytes.
-    #[error("value-too-long")]
     ValueTooLong,
     /// Another state UUID, window or schema.
-    #[error("wrong-cluster")]
     WrongCluster,
     /// The joiner is past the donor's durable position, which is `position`.
-    #[error("ahead {position}")]
     Ahead { position: u64 },
     /// The session or the publisher has ended.
-    #[error("closed")]
     Closed,
     /// No seqno or ticket is left.
-    #[error("exhausted")]
     Exhausted,
     /// A reader or a writer failed, or a text is too long.
-    #[error("stream-fault")]
     StreamFault,
 }
 
@@ -131,7 +118,81 @@ impl Refusal {
             Refusal::StreamFault => 24,
         }
     }
+
+    /// What the refusal is called.
+    fn name(self) -> &'static str
+        ensures { result.now ≡ refusal_name self }
+    {
+        match self {
+            Refusal::OutOfMemory => "out-of-memory",
+            Refusal::DiskFault => "disk-fault",
+            Refusal::Stopped => "stopped",
+            Refusal::OutOfOrder { .. } => "out-of-order",
+            Refusal::Backlogged => "backlogged",
+            Refusal::LogFull => "log-full",
+            Refusal::NotDue => "not-due",
+            Refusal::TooOld { .. } => "too-old",
+            Refusal::NotYet { .. } => "not-yet",
+            Refusal::BadKey => "bad-key",
+            Refusal::Undefined => "undefined",
+            Refusal::NotFormatted => "not-formatted",
+            Refusal::Corrupt { .. } => "corrupt",
+            Refusal::TooSmall { .. } => "too-small",
+            Refusal::BadParams => "bad-params",
+            Refusal::Malformed { .. } => "malformed",
+            Refusal::TooManyReads => "too-many-reads",
+            Refusal::TooManyWrites => "too-many-writes",
+            Refusal::ValueTooLong => "value-too-long",
+            Refusal::WrongCluster => "wrong-cluster",
+            Refusal::Ahead { .. } => "ahead",
+            Refusal::Closed => "closed",
+            Refusal::Exhausted => "exhausted",
+            Refusal::StreamFault => "stream-fault",
+        }
+    }
+
+    /// The data that it has.
+    fn data(self) -> Data
+        ensures { result ≡ refusal_data self }
+    {
+        match self {
+            Refusal::Corrupt { part } => Data::Place(part),
+            Refusal::OutOfOrder { expected } => Data::Figure(expected),
+            Refusal::TooOld { oldest } => Data::Figure(oldest),
+            Refusal::NotYet { durable } => Data::Figure(durable),
+            Refusal::TooSmall { need } => Data::Figure(need),
+            Refusal::Malformed { at } => Data::Figure(at),
+            Refusal::Ahead { position } => Data::Figure(position),
+            _ => Data::Nothing,
+        }
+    }
 }
+
+/// What a refusal has beside its name.
+#[derive(Clone, Copy)]
+enum Data {
+    Nothing,
+    Figure(u64),
+    Place(Part),
+}
+
+impl fmt::Display for Refusal {
+    ghost use Rattle.std.specs.Prelude.{Some};
+    ghost use Rattle.rep_types.specs.Texts.{refusal_text};
+
+    ghost output = { λ refusal. Some (refusal_text refusal) };
+
+    fn fmt<W: fmt::Write>(&self, f: &mut fmt::Formatter<W>) -> fmt::Result {
+        let name = self.name();
+        match self.data() {
+            Data::Nothing => f.write_str(name),
+            Data::Figure(figure) => write!(f, "{name} {figure}"),
+            Data::Place(part) => write!(f, "{name} {}", part.name()),
+        }
+    }
+}
+
+impl Error for Refusal {}
 
 impl From<AllocError> for Refusal {
     ghost from_gives = { λ _ refusal. refusal ≡ OutOfMemory };

@@ -1,4 +1,4 @@
-use Rattle.std.proofs.Common.{◌≡◌, ap, subst, ◌∙◌, List, ℕ, Result, IfOk}
+use Rattle.std.proofs.Common.{◌≡◌, ap, subst, ◌∙◌, List, ℕ, Result, IfOk, rules}
 use Rattle.rep_layout.specs.declared.place.Layout.{Layout}
 use Rattle.rep_layout.specs.declared.place.Place.TheVariants.{Page}
 use Rattle.rep_cells.specs.Device.{disk_of, layout_of}
@@ -44,3 +44,6 @@ returns-clause-agrees g c =
     let puts = subst (λ (k : Layout). PutsPage g.D.Disk k c.args.base.now c.image-page.result slot (disk_of c.take_page.new.cells) (disk_of c.put_page.new.cells) (fault_of c.put_page.result)) c.take_page.ensures.layout c.put_page.ensures.puts in
     written_agrees c.pools_go_on.ensures g.D.Disk c.args.base.now.params.rows (layout_of c.args.cells.now) (disk_of c.args.cells.now) (disk_of c.take_page.new.cells) (disk_of c.put_page.new.cells) c.args.pool.now c.take_page.new.self c.args.number
     (Page c.image-page.result.number slot) slot c.put_page.result c.put_page.ensures.call.was_honest c.take_page.ensures.agrees (c.take_page.ensures.free slot) (ap (λ (n : ℕ). Page n slot) ((image_is g (goal.at.returns-clause-agrees g c).After-image-page).number ∙ number_is g (goal.at.returns-clause-agrees g c).After-image-page)) puts.inside c.put_page.ensures.refused
+
+pub returns-clause-call : goal.returns-clause-call
+returns-clause-call g c = search rules

@@ -1,4 +1,4 @@
-use Rattle.std.proofs.Common.{◌≡◌, sym, ap, subst, ◌∙◌}
+use Rattle.std.proofs.Common.{◌≡◌, sym, ap, subst, ◌∙◌, rules}
 use Rattle.rep_layout.specs.declared.place.Side.{Side}
 use Rattle.rep_layout.specs.declared.place.Place.TheVariants.{Super, Window}
 use Rattle.rep_layout.specs.Places.{offset_of}
@@ -38,3 +38,6 @@ returns-in-Flushing-clause-written g c =
     subst (λ (p : Part). WritesOnly g.D.Disk (next_offset l base (Toward v.next p)) (next_bytes (Toward v.next p)) old new c.put_window.result) (sym part)
     (subst (λ (n : Next). WritesOnly g.D.Disk (next_offset l base (Toward n Flushing)) (window_bytes (window_of n)) old new c.put_window.result) (ap (λ (i : Coming). i.next) c.self.view_is)
     (subst (λ (sd : Side). WritesOnly g.D.Disk (offset_of l (Window sd)) (window_bytes (window_of c.self.inside.next)) old new c.put_window.result) c.spare_side-side.ensures c.put_window.ensures.written))
+
+pub returns-in-Flushing-clause-inside : goal.returns-in-Flushing-clause-inside
+returns-in-Flushing-clause-inside g c = search rules

@@ -1,4 +1,4 @@
-use Rattle.std.proofs.Common.{◌≡◌, ℕ, sym, ap, subst, ◌∙◌}
+use Rattle.std.proofs.Common.{◌≡◌, ℕ, sym, ap, subst, ◌∙◌, rules}
 use Rattle.rep_checkpoint.specs.Coming.{Coming, CanInstall, IsComing, blank, coming}
 use Rattle.rep_checkpoint.specs.Installing.{BeginsToInstall}
 use Rattle.rep_engine.specs.Engines.{Engine, IsEngine}
@@ -34,3 +34,27 @@ invariant_of-result g c =
     let comes = subst (λ (e : Engine g.row.D.Denot). IsComing e.checkpoint.base c.install-coming.result.next) c.self.view_is c.install-coming.ensures.is in
     let engine = subst (λ (e : Engine g.row.D.Denot). IsEngine e.layout e.checkpoint e.log e.kept e.block) c.self.view_is c.self.invariant.0 in
     begins_beside old engine c.args.uuid c.args.position c.args.window c.requires.off c.requires.brings c.requires.waits c.install-coming.result is comes
+
+pub windows_go_on-requires : goal.windows_go_on-requires
+windows_go_on-requires g c = search
+
+pub installations_stand_beside-requires : goal.installations_stand_beside-requires
+installations_stand_beside-requires g c = search
+
+pub returns-then-is_some-clause-holds : goal.returns-then-is_some-clause-holds
+returns-then-is_some-clause-holds g c = search
+
+pub next-start-requires : goal.next-start-requires
+next-start-requires g c = search
+
+pub returns-then-is_some-clause-stopped : goal.returns-then-is_some-clause-stopped
+returns-then-is_some-clause-stopped g c = search rules
+
+pub returns-then-is_some-clause-begun : goal.returns-then-is_some-clause-begun
+returns-then-is_some-clause-begun g c = search rules
+
+pub returns-clause-stopped : goal.returns-clause-stopped
+returns-clause-stopped g c = search rules
+
+pub returns-clause-begun : goal.returns-clause-begun
+returns-clause-begun g c = search rules

@@ -1,4 +1,4 @@
-use Rattle.std.proofs.Common.{refl, sym, ap, subst}
+use Rattle.std.proofs.Common.{refl, sym, ap, subst, rules}
 use Rattle.std.specs.Prelude.{IsOk, IsErr}
 use Rattle.rep_types.proofs.Choices.{of_success}
 use Rattle.rep_checkpoint.specs.Coming.{Coming}
@@ -30,3 +30,63 @@ returns-clause-takes g c = λ n y holds.
     takes_then g.D.Disk n y c.args.self.now c.install_step.new.self _ c.args.coming c.install_step.new.coming c.install_open.result super first.leaves
     (takes_then g.D.Disk n y c.install_step.new.self c.install_step-2.new.self _ c.install_step.new.coming c.install_step-2.new.coming c.install_open.result super_then second.leaves
     (c.install_open.ensures.takes n y (of_success c.install_step-2.result ok_then second.holds)))
+
+pub install_step-requires-clause-runs : goal.install_step-requires-clause-runs
+install_step-requires-clause-runs g c = search
+
+pub install_step-requires-clause-beside : goal.install_step-requires-clause-beside
+install_step-requires-clause-beside g c = search
+
+pub install_step-requires-clause-due : goal.install_step-requires-clause-due
+install_step-requires-clause-due g c = search rules
+
+pub install_step-requires-clause-closed : goal.install_step-requires-clause-closed
+install_step-requires-clause-closed g c = search rules
+
+pub returns-in_err-install_step-clause-call : goal.returns-in_err-install_step-clause-call
+returns-in_err-install_step-clause-call g c = search rules
+
+pub returns-in_err-install_step-clause-refused : goal.returns-in_err-install_step-clause-refused
+returns-in_err-install_step-clause-refused g c = search rules
+
+pub returns-in_err-install_step-clause-taken : goal.returns-in_err-install_step-clause-taken
+returns-in_err-install_step-clause-taken g c = search rules
+
+pub install_step-requires-2-clause-runs : goal.install_step-requires-2-clause-runs
+install_step-requires-2-clause-runs g c = search rules
+
+pub install_step-requires-2-clause-beside : goal.install_step-requires-2-clause-beside
+install_step-requires-2-clause-beside g c = search rules
+
+pub install_step-requires-2-clause-due : goal.install_step-requires-2-clause-due
+install_step-requires-2-clause-due g c = search rules
+
+pub install_step-requires-2-clause-closed : goal.install_step-requires-2-clause-closed
+install_step-requires-2-clause-closed g c = search rules
+
+pub returns-in_err-install_step-2-clause-call : goal.returns-in_err-install_step-2-clause-call
+returns-in_err-install_step-2-clause-call g c = search rules
+
+pub returns-in_err-install_step-2-clause-refused : goal.returns-in_err-install_step-2-clause-refused
+returns-in_err-install_step-2-clause-refused g c = search rules
+
+pub returns-in_err-install_step-2-clause-taken : goal.returns-in_err-install_step-2-clause-taken
+returns-in_err-install_step-2-clause-taken g c = search rules
+
+pub install_open-requires-clause-runs : goal.install_open-requires-clause-runs
+install_open-requires-clause-runs g c = search rules
+
+pub install_open-requires-clause-beside : goal.install_open-requires-clause-beside
+install_open-requires-clause-beside g c = search rules
+
+pub install_open-requires-clause-filled : goal.install_open-requires-clause-filled
+install_open-requires-clause-filled g c = search rules
+
+pub returns-clause-call : goal.returns-clause-call
+returns-clause-call g c = search rules
+
+pub returns-clause-refused : goal.returns-clause-refused
+returns-clause-refused g c = search rules
+
+pub returns-clause-taken : goal.returns-clause-taken
+returns-clause-taken g c = search rules

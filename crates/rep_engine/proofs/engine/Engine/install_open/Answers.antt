@@ -1,4 +1,4 @@
-use Rattle.std.proofs.Common.{Ok, refl, sym, ap, subst, ◌∙◌}
+use Rattle.std.proofs.Common.{Ok, refl, sym, ap, subst, ◌∙◌, rules}
 use Rattle.std.specs.Prelude.{IsOk, IsErr}
 use Rattle.rep_types.proofs.Choices.{of_success}
 use Rattle.rep_disk.specs.Moments.{LeavesOnly}
@@ -48,3 +48,66 @@ returns-clause-takes g c = λ n y holds.
           (stable_leaves g.D.Disk g.met.D.Disk.sized c.installations_leave_the_old_or_the_new.ensures c.installations_stand_beside.ensures c.install_next.new.self c.install_sync.new.self c.install_sync.ensures.rest w.engine w.runs n y c.install_next.new.coming w.holds
           c.install_sync.result c.install_sync.ensures.call c.install_sync.ensures.halted c.install_sync.ensures.settles);
     })
+
+pub images_read_as_allowed-requires : goal.images_read_as_allowed-requires
+images_read_as_allowed-requires g c = search
+
+pub nodes_leave_their_fronts-requires : goal.nodes_leave_their_fronts-requires
+nodes_leave_their_fronts-requires g c = search
+
+pub versions_follow_the_items-requires : goal.versions_follow_the_items-requires
+versions_follow_the_items-requires g c = search
+
+pub installations_stand_beside-requires : goal.installations_stand_beside-requires
+installations_stand_beside-requires g c = search
+
+pub installations_leave_the_old_or_the_new-requires : goal.installations_leave_the_old_or_the_new-requires
+installations_leave_the_old_or_the_new-requires g c = search
+
+pub installations_make_the_node-requires : goal.installations_make_the_node-requires
+installations_make_the_node-requires g c = search
+
+pub install_next-requires-clause-runs : goal.install_next-requires-clause-runs
+install_next-requires-clause-runs g c = search
+
+pub install_next-requires-clause-beside : goal.install_next-requires-clause-beside
+install_next-requires-clause-beside g c = search
+
+pub returns-clause-refused : goal.returns-clause-refused
+returns-clause-refused g c = search
+
+pub install_next-requires-clause-due : goal.install_next-requires-clause-due
+install_next-requires-clause-due g c = search rules
+
+pub returns-in_err-install_next-clause-call : goal.returns-in_err-install_next-clause-call
+returns-in_err-install_next-clause-call g c = search rules
+
+pub returns-in_err-install_next-clause-refused : goal.returns-in_err-install_next-clause-refused
+returns-in_err-install_next-clause-refused g c = search rules
+
+pub returns-in_err-install_next-clause-taken : goal.returns-in_err-install_next-clause-taken
+returns-in_err-install_next-clause-taken g c = search rules
+
+pub install_sync-requires-clause-runs : goal.install_sync-requires-clause-runs
+install_sync-requires-clause-runs g c = search rules
+
+pub install_sync-requires-clause-resting : goal.install_sync-requires-clause-resting
+install_sync-requires-clause-resting g c = search rules
+
+pub returns-in_err-install_sync-clause-call : goal.returns-in_err-install_sync-clause-call
+returns-in_err-install_sync-clause-call g c = search rules
+
+pub returns-in_err-install_sync-clause-refused : goal.returns-in_err-install_sync-clause-refused
+returns-in_err-install_sync-clause-refused g c = search rules
+
+pub returns-in_err-install_sync-clause-taken : goal.returns-in_err-install_sync-clause-taken
+returns-in_err-install_sync-clause-taken g c = search rules
+
+pub raise_to-requires : goal.raise_to-requires
+raise_to-requires g c = search rules
+
+pub returns-clause-call : goal.returns-clause-call
+returns-clause-call g c = search rules
+
+pub returns-clause-taken : goal.returns-clause-taken
+returns-clause-taken g c = search rules

@@ -1,4 +1,4 @@
-use Rattle.std.proofs.Common.{◌≡◌, Option, None, Some, refl, sym, ap, subst, ◌∙◌, inr}
+use Rattle.std.proofs.Common.{◌≡◌, Option, None, Some, refl, sym, ap, subst, ◌∙◌, inr, rules}
 use Rattle.rep_log.specs.declared.phase.Phase.{Phase}
 use Rattle.rep_layout.specs.declared.place.Layout.{Layout}
 use Rattle.rep_cells.specs.Device.{disk_of, layout_of}
@@ -81,3 +81,54 @@ returns-in_err-running g c =
       log = tt;
       leaves = λ n holds. leaves_none _ _ refl;
     })
+
+pub nodes_stay_nodes-requires : goal.nodes_stay_nodes-requires
+nodes_stay_nodes-requires g c = search
+
+pub nodes_leave_their_fronts-requires : goal.nodes_leave_their_fronts-requires
+nodes_leave_their_fronts-requires g c = search
+
+pub the_log_is_apart-requires : goal.the_log_is_apart-requires
+the_log_is_apart-requires g c = search
+
+pub pools_go_on-requires : goal.pools_go_on-requires
+pools_go_on-requires g c = search
+
+pub returns-in-Some-clause-rest : goal.returns-in-Some-clause-rest
+returns-in-Some-clause-rest g c = search
+
+pub returns-in-Some-clause-log : goal.returns-in-Some-clause-log
+returns-in-Some-clause-log g c = search
+
+pub phase-before-requires : goal.phase-before-requires
+phase-before-requires g c = search
+
+pub write_next-written-requires-clause-cells : goal.write_next-written-requires-clause-cells
+write_next-written-requires-clause-cells g c = search
+
+pub log_refusal-requires : goal.log_refusal-requires
+log_refusal-requires g c = search rules
+
+pub returns-in-Some-clause-call : goal.returns-in-Some-clause-call
+returns-in-Some-clause-call g c = search rules
+
+pub returns-in-Some-clause-moves : goal.returns-in-Some-clause-moves
+returns-in-Some-clause-moves g c = search rules
+
+pub returns-in-Some-clause-unchanged : goal.returns-in-Some-clause-unchanged
+returns-in-Some-clause-unchanged g c = search rules
+
+pub returns-in-Some-clause-fault : goal.returns-in-Some-clause-fault
+returns-in-Some-clause-fault g c = search rules
+
+pub returns-in-Some-clause-memory : goal.returns-in-Some-clause-memory
+returns-in-Some-clause-memory g c = search rules
+
+pub returns-in-Some-clause-leaves : goal.returns-in-Some-clause-leaves
+returns-in-Some-clause-leaves g c = search rules
+
+pub write_next-written-requires-clause-block : goal.write_next-written-requires-clause-block
+write_next-written-requires-clause-block g c = search rules
+
+pub write_next-written-requires-clause-due : goal.write_next-written-requires-clause-due
+write_next-written-requires-clause-due g c = search rules

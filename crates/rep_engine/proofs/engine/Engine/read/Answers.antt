@@ -1,4 +1,4 @@
-use Rattle.std.proofs.Common.{◌∙◌, None, Some, refl, sym, ap, subst, inr}
+use Rattle.std.proofs.Common.{◌∙◌, None, Some, refl, sym, ap, subst, inr, rules}
 use Rattle.rep_types.specs.declared.refusal.Refusal.TheVariants.{Stopped}
 use Rattle.rep_layout.specs.declared.place.Place.TheVariants.{Page}
 use Rattle.rep_layout.specs.Rows.{row_place}
@@ -104,3 +104,81 @@ returns-in_err-running g c =
       unchanged = inr (inr refl);
       fault = λ e. absurd cc;
     })
+
+pub nodes_stay_nodes-requires : goal.nodes_stay_nodes-requires
+nodes_stay_nodes-requires g c = search
+
+pub versions_follow_the_items-requires : goal.versions_follow_the_items-requires
+versions_follow_the_items-requires g c = search
+
+pub versions_lead_to_the_state-requires : goal.versions_lead_to_the_state-requires
+versions_lead_to_the_state-requires g c = search
+
+pub the_bytes_tell_the_page-requires : goal.the_bytes_tell_the_page-requires
+the_bytes_tell_the_page-requires g c = search
+
+pub returns-in-Some-clause-rest : goal.returns-in-Some-clause-rest
+returns-in-Some-clause-rest g c = search
+
+pub returns-in-Some-clause-same : goal.returns-in-Some-clause-same
+returns-in-Some-clause-same g c = search
+
+pub copied-requires : goal.copied-requires
+copied-requires g c = search
+
+pub returns-in-Found-clause-rest : goal.returns-in-Found-clause-rest
+returns-in-Found-clause-rest g c = search
+
+pub returns-in-Found-clause-same : goal.returns-in-Found-clause-same
+returns-in-Found-clause-same g c = search
+
+pub returns-in-Found-clause-unchanged : goal.returns-in-Found-clause-unchanged
+returns-in-Found-clause-unchanged g c = search
+
+pub returns-in-Found-clause-fault : goal.returns-in-Found-clause-fault
+returns-in-Found-clause-fault g c = search
+
+pub returns-in-Deleted-clause-rest : goal.returns-in-Deleted-clause-rest
+returns-in-Deleted-clause-rest g c = search
+
+pub returns-in-Deleted-clause-same : goal.returns-in-Deleted-clause-same
+returns-in-Deleted-clause-same g c = search
+
+pub returns-in-Deleted-clause-unchanged : goal.returns-in-Deleted-clause-unchanged
+returns-in-Deleted-clause-unchanged g c = search
+
+pub returns-in-Deleted-clause-fault : goal.returns-in-Deleted-clause-fault
+returns-in-Deleted-clause-fault g c = search
+
+pub returns-in-Below-clause-call : goal.returns-in-Below-clause-call
+returns-in-Below-clause-call g c = search
+
+pub returns-in-Below-clause-same : goal.returns-in-Below-clause-same
+returns-in-Below-clause-same g c = search
+
+pub returns-in-Some-clause-call : goal.returns-in-Some-clause-call
+returns-in-Some-clause-call g c = search rules
+
+pub returns-in-Some-clause-moves : goal.returns-in-Some-clause-moves
+returns-in-Some-clause-moves g c = search rules
+
+pub returns-in-Some-clause-steps : goal.returns-in-Some-clause-steps
+returns-in-Some-clause-steps g c = search rules
+
+pub returns-in-Some-clause-unchanged : goal.returns-in-Some-clause-unchanged
+returns-in-Some-clause-unchanged g c = search rules
+
+pub returns-in-Some-clause-fault : goal.returns-in-Some-clause-fault
+returns-in-Some-clause-fault g c = search rules
+
+pub read_base-requires : goal.read_base-requires
+read_base-requires g c = search rules
+
+pub returns-in-Found-clause-call : goal.returns-in-Found-clause-call
+returns-in-Found-clause-call g c = search rules
+
+pub returns-in-Deleted-clause-call : goal.returns-in-Deleted-clause-call
+returns-in-Deleted-clause-call g c = search rules
+
+pub returns-in-Below-clause-rest : goal.returns-in-Below-clause-rest
+returns-in-Below-clause-rest g c = search rules

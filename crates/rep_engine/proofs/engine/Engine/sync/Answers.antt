@@ -1,4 +1,4 @@
-use Rattle.std.proofs.Common.{◌≡◌, Some, Ok, Err, refl, sym, ap, subst, ◌∙◌, inr}
+use Rattle.std.proofs.Common.{◌≡◌, Some, Ok, Err, refl, sym, ap, subst, ◌∙◌, inr, rules}
 use Rattle.rep_disk.specs.Moments.{LeavesOnly}
 use Rattle.rep_cells.specs.Calls.{Settles}
 use Rattle.rep_types.specs.declared.refusal.Refusal.TheVariants.{DiskFault}
@@ -146,3 +146,84 @@ returns-in_err-running g c =
       steps = λ n holds. (n, stopped_steps n to_sync (ap (λ (s : Standing). s.stopped) holds.facts ∙ c.in_err-running.ensures.stopped.1), holds);
       leaves = λ n holds. leaves_none _ _ refl;
     })
+
+pub nodes_stay_nodes-requires : goal.nodes_stay_nodes-requires
+nodes_stay_nodes-requires g c = search
+
+pub images_read_as_allowed-requires : goal.images_read_as_allowed-requires
+images_read_as_allowed-requires g c = search
+
+pub nodes_leave_their_fronts-requires : goal.nodes_leave_their_fronts-requires
+nodes_leave_their_fronts-requires g c = search
+
+pub nodes_settle-requires : goal.nodes_settle-requires
+nodes_settle-requires g c = search
+
+pub the_stage_is_the_facts-requires : goal.the_stage_is_the_facts-requires
+the_stage_is_the_facts-requires g c = search
+
+pub the_synced_log_is_the_facts-requires : goal.the_synced_log_is_the_facts-requires
+the_synced_log_is_the_facts-requires g c = search
+
+pub versions_follow_the_items-requires : goal.versions_follow_the_items-requires
+versions_follow_the_items-requires g c = search
+
+pub judging_goes_on-requires : goal.judging_goes_on-requires
+judging_goes_on-requires g c = search
+
+pub pools_go_on-requires : goal.pools_go_on-requires
+pools_go_on-requires g c = search
+
+pub phase-requires : goal.phase-requires
+phase-requires g c = search
+
+pub returns-then-is_err-clause-synced : goal.returns-then-is_err-clause-synced
+returns-then-is_err-clause-synced g c = search
+
+pub returns-then-is_err-clause-log : goal.returns-then-is_err-clause-log
+returns-then-is_err-clause-log g c = search
+
+pub returns-clause-unchanged : goal.returns-clause-unchanged
+returns-clause-unchanged g c = search
+
+pub returns-clause-fault : goal.returns-clause-fault
+returns-clause-fault g c = search
+
+pub returns-clause-unsynced : goal.returns-clause-unsynced
+returns-clause-unsynced g c = search
+
+pub invariant_of-self : goal.invariant_of-self
+invariant_of-self g c = search rules
+
+pub returns-then-is_err-clause-call : goal.returns-then-is_err-clause-call
+returns-then-is_err-clause-call g c = search rules
+
+pub returns-then-is_err-clause-rest : goal.returns-then-is_err-clause-rest
+returns-then-is_err-clause-rest g c = search rules
+
+pub returns-then-is_err-clause-params : goal.returns-then-is_err-clause-params
+returns-then-is_err-clause-params g c = search rules
+
+pub returns-then-is_err-clause-unchanged : goal.returns-then-is_err-clause-unchanged
+returns-then-is_err-clause-unchanged g c = search rules
+
+pub returns-then-is_err-clause-fault : goal.returns-then-is_err-clause-fault
+returns-then-is_err-clause-fault g c = search rules
+
+pub returns-then-is_err-clause-unsynced : goal.returns-then-is_err-clause-unsynced
+returns-then-is_err-clause-unsynced g c = search rules
+
+pub returns-then-is_err-clause-moves : goal.returns-then-is_err-clause-moves
+returns-then-is_err-clause-moves g c = search rules
+
+pub returns-clause-call : goal.returns-clause-call
+returns-clause-call g c = search rules
+
+pub returns-clause-rest : goal.returns-clause-rest
+returns-clause-rest g c = search rules
+
+pub returns-clause-params : goal.returns-clause-params
+returns-clause-params g c = search rules
+
+pub returns-clause-synced : goal.returns-clause-synced
+returns-clause-synced g c = search rules

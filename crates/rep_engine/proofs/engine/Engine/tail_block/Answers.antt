@@ -115,3 +115,42 @@ returns-in_err-running g c =
       whole = λ n holds corrupt. absurd cc;
       spelled = λ honest. record { block = tt; corrupt = λ gave. absurd cc };
     })
+
+pub images_read_as_allowed-requires : goal.images_read_as_allowed-requires
+images_read_as_allowed-requires g c = search
+
+pub open_blocks_are_shown-requires : goal.open_blocks_are_shown-requires
+open_blocks_are_shown-requires g c = search
+
+pub start-first-requires : goal.start-first-requires
+start-first-requires g c = search
+
+pub next-requires : goal.next-requires
+next-requires g c = search
+
+pub log_of-cell-requires : goal.log_of-cell-requires
+log_of-cell-requires g c = search
+
+pub phase-requires : goal.phase-requires
+phase-requires g c = search
+
+pub block_in-requires : goal.block_in-requires
+block_in-requires g c = search
+
+pub overflow_sub-next : goal.overflow_sub-next
+overflow_sub-next g c = search rules
+
+pub overflow_add-number : goal.overflow_add-number
+overflow_add-number g c = search rules
+
+pub read_cell-requires-clause-cell : goal.read_cell-requires-clause-cell
+read_cell-requires-clause-cell g c = search rules
+
+pub read_cell-requires-clause-room : goal.read_cell-requires-clause-room
+read_cell-requires-clause-room g c = search rules
+
+pub invariant_of-self : goal.invariant_of-self
+invariant_of-self g c = search rules
+
+pub invariant_of-self-in_default : goal.invariant_of-self-in_default
+invariant_of-self-in_default g c = search rules

@@ -1,4 +1,4 @@
-use Rattle.std.proofs.Common.{◌≡◌, None, IfErr, OnOk, Err, ap, subst, ◌∙◌}
+use Rattle.std.proofs.Common.{◌≡◌, None, IfErr, OnOk, Err, ap, subst, ◌∙◌, rules}
 use Rattle.rep_types.specs.declared.refusal.Refusal.TheVariants.{DiskFault}
 use Rattle.rep_disk.specs.Moments.{LeavesOnly}
 use Rattle.rep_steps.specs.Images.{IsFrontAt}
@@ -37,3 +37,72 @@ returns-clause-leaves g c = λ n y.
     → LeavesOnly (g.D.Disk.history b.engine.disk) (g.D.Disk.history c.install_page.new.self.disk) (IsFrontAt Means n)) c.self.view_is
     (λ holds. page_leaves g.D.Disk g.met.D.Disk.sized c.installations_leave_the_old_or_the_new.ensures c.installations_stand_beside.ensures c.self.inside.engine c.install_page.new.self.disk c.install_page.new.self.halted c.running.ensures.engine c.in_ok-running.ensures.runs
     n y c.self.inside.coming holds c.install_page.new.coming c.args.page c.args.rows c.install_page.result c.install_page.ensures.puts c.install_page.ensures.call c.self.invariant.1)
+
+pub returns-in_err-running-clause-rest : goal.returns-in_err-running-clause-rest
+returns-in_err-running-clause-rest g c = search
+
+pub installations_stand_beside-requires : goal.installations_stand_beside-requires
+installations_stand_beside-requires g c = search
+
+pub installations_leave_the_old_or_the_new-requires : goal.installations_leave_the_old_or_the_new-requires
+installations_leave_the_old_or_the_new-requires g c = search
+
+pub install_page-requires-clause-beside : goal.install_page-requires-clause-beside
+install_page-requires-clause-beside g c = search
+
+pub install_page-requires-clause-due : goal.install_page-requires-clause-due
+install_page-requires-clause-due g c = search
+
+pub returns-in_err-running-clause-call : goal.returns-in_err-running-clause-call
+returns-in_err-running-clause-call g c = search rules
+
+pub returns-in_err-running-clause-stopped : goal.returns-in_err-running-clause-stopped
+returns-in_err-running-clause-stopped g c = search rules
+
+pub returns-in_err-running-clause-running : goal.returns-in_err-running-clause-running
+returns-in_err-running-clause-running g c = search rules
+
+pub returns-in_err-running-clause-done : goal.returns-in_err-running-clause-done
+returns-in_err-running-clause-done g c = search rules
+
+pub returns-in_err-running-clause-fault : goal.returns-in_err-running-clause-fault
+returns-in_err-running-clause-fault g c = search rules
+
+pub returns-in_err-running-clause-written : goal.returns-in_err-running-clause-written
+returns-in_err-running-clause-written g c = search rules
+
+pub returns-in_err-running-clause-holds : goal.returns-in_err-running-clause-holds
+returns-in_err-running-clause-holds g c = search rules
+
+pub returns-in_err-running-clause-halts : goal.returns-in_err-running-clause-halts
+returns-in_err-running-clause-halts g c = search rules
+
+pub returns-in_err-running-clause-leaves : goal.returns-in_err-running-clause-leaves
+returns-in_err-running-clause-leaves g c = search rules
+
+pub install_page-requires-clause-runs : goal.install_page-requires-clause-runs
+install_page-requires-clause-runs g c = search rules
+
+pub install_page-requires-clause-page : goal.install_page-requires-clause-page
+install_page-requires-clause-page g c = search rules
+
+pub invariant_of-self : goal.invariant_of-self
+invariant_of-self g c = search rules
+
+pub returns-clause-call : goal.returns-clause-call
+returns-clause-call g c = search rules
+
+pub returns-clause-rest : goal.returns-clause-rest
+returns-clause-rest g c = search rules
+
+pub returns-clause-stopped : goal.returns-clause-stopped
+returns-clause-stopped g c = search rules
+
+pub returns-clause-running : goal.returns-clause-running
+returns-clause-running g c = search rules
+
+pub returns-clause-done : goal.returns-clause-done
+returns-clause-done g c = search rules
+
+pub returns-clause-fault : goal.returns-clause-fault
+returns-clause-fault g c = search rules
