@@ -29,6 +29,8 @@ import subprocess
 import tempfile
 import time
 
+from gate.answers import alone, without
+
 # The folders of a crate that have edits: those that the gate tries, each by itself and together, and those that it leaves out.
 ALONE, TOGETHER, MORE = "must-fail", "must-fail-together", "must-fail-more"
 
@@ -259,67 +261,6 @@ def put_holes(crate, room, holes):
             it.write(HOLE.format(module="Rattle." + crate.name + module_in_proofs(parts), name=parts[-1]))
 
 
-def without(goals, answers):
-    """The answers without those to these goals."""
-    kept, drops = [], False
-    for line in answers.split("\n"):
-        word = re.match(r"(?:pub )?([^\s:]+)", line)
-        if word and re.match(r"\w", word[1]) and word[1] != "unfolding":
-            drops = word[1] in goals
-        if not drops:
-            kept.append(line)
-    return "\n".join(kept)
-
-
-def declarations_of(answers):
-    """What an answers file declares, by its names, each with the comments above it; and what it imports."""
-    found, imports, name, above = {}, [], None, []
-    for line in answers.split("\n"):
-        word = re.match(r"(?:pub )?(?:abbrev )?(?:pub )?([^\s:]+)", line)
-        if line.startswith("use "):
-            imports.append(line)
-        elif not line.strip() or line.startswith("--"):
-            above.append(line)
-        elif word and word[1] not in (name, "unfolding"):
-            name = word[1]
-            found[name], above = above + [line], []
-        else:
-            found[name] += above + [line]
-            above = []
-    return {name: "\n".join(lines).strip("\n") for name, lines in found.items()}, imports
-
-
-def names_in(text):
-    """The names in a text of antt."""
-    return set(re.findall(r"[^\s(){}\[\].,;]+", text))
-
-
-def needed(line, names):
-    """The line of imports without what none of these names is; nothing where nothing is left."""
-    module, brace, given = line.partition("{")
-    if not brace:
-        return line
-    kept = [it.strip() for it in given.rstrip(" }").split(",") if it.strip().split(" as ")[-1] in names or "◌" in it]
-    return "%s{%s}" % (module, ", ".join(kept)) if kept else ""
-
-
-def alone(goal, answers):
-    """The answers with that to this goal alone, and what it names of the others. None where there is none."""
-    declared, imports = declarations_of(answers)
-    kept, left = {}, [goal]
-    while left:
-        name = left.pop()
-        if name in declared and name not in kept:
-            kept[name] = declared[name]
-            left += names_in(declared[name])
-    if goal not in kept:
-        return None
-    texts = [kept[it] for it in declared if it in kept]
-    names = names_in("\n".join(texts))
-    lines = [needed(line, names) for line in imports]
-    return "\n\n".join(["\n".join(it for it in lines if it), *texts]) + "\n"
-
-
 class Edit:
     """One wrong body: what it replaces, in which files, and the functions whose bodies that changes."""
 
@@ -481,7 +422,8 @@ class Said:
         """What refused the function for itself: the first goal of its own that is open, and not for a name that is gone. None where nothing did."""
         told = self.of[function]
         if function in self.by:
-            return next((why for path, why in self.errors if path == function.replace("::", "/") and why.startswith("`%s`: " % self.by[function])), None)
+            own = (why for path, why in self.errors if path == function.replace("::", "/") and not OF_NAMES.search(why))
+            return next((it for it in own if it.startswith("`%s`: " % self.by[function])), None)
         without = re.match(r"no proof: expected answers in \S+ `?search`? did not prove (.*?)(?:;|$)", told)
         if without:
             return "no proof of " + without[1]
