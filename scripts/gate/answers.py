@@ -23,7 +23,8 @@ def declarations_of(answers):
             imports.append(line)
         elif not line.strip() or line.startswith("--"):
             above.append(line)
-        elif word and word[1] not in (name, "unfolding"):
+        # (a bracket that closes stands at the start of its line, too)
+        elif word and re.match(r"\w", word[1]) and word[1] not in (name, "unfolding"):
             name = word[1]
             found[name], above = above + [line], []
         else:
