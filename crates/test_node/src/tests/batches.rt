@@ -2,15 +2,16 @@
 
 use super::paces::{Crossing, Held as HeldWorkers, Writes};
 use super::replicas::{
-    durable_after_crash, formatted, has_row, is_whole, new_disk, putting_each, served,
+    Device, Failing, durable_after_crash, formatted, has_row, is_whole, new_disk, putting_each,
+    served, sound,
 };
-use rep_disk::{Disk, Faults, FaultyDisk, Fuse, Held, HeldDisk, MemDisk, Once};
+use rep_disk::{FaultyDisk, Fuse, Held, MemDisk, Once};
 use rep_node::{Batch, Point};
 use rep_replica::Replica;
 use rep_types::{Item, Params, Refusal};
 use std::alloc::Global;
 use std::process::Abort;
-use std::sync::Wait;
+use std::sync::{Arc, Wait};
 use std::test::Fail;
 use std::thread::Threads;
 
@@ -21,9 +22,10 @@ fn while_the_engine_writes<R: Threads + Wait + Sync>(
     alloc: Global,
     items: &[Item],
 ) -> Result<bool, Refusal> {
-    let crossing = Crossing::new();
-    let disk = HeldDisk::new(new_disk(alloc)?, Held::by(Writes(&crossing)));
-    let (replica, batch) = served(rt, alloc, disk, items, 2, &crossing)?;
+    let crossing = Arc::new(alloc, Crossing::new())?;
+    let writes = Writes(Arc::try_clone(&crossing)?);
+    let disk = FaultyDisk::new(new_disk(alloc)?, Failing::Held(Held::by(writes)));
+    let (replica, batch) = served(rt, alloc, disk, items, 2, &*crossing)?;
     Ok(is_whole(&replica, &batch, 2, 0))
 }
 
@@ -128,7 +130,7 @@ fn disk_for(alloc: Global, is_wide: bool) -> Result<MemDisk, Refusal> {
 }
 
 /// Whether this came of the batch that left the replica.
-fn is_so<D: Disk>(replica: &mut Replica<D>, batch: &Batch, came: Came) -> bool {
+fn is_so(replica: &mut Replica<Device>, batch: &Batch, came: Came) -> bool {
     match came {
         Came::Whole(commits, stale, is_raised) => {
             is_whole(replica, batch, commits, stale) && (!is_raised || replica.base() > 0)
@@ -142,7 +144,7 @@ fn is_so<D: Disk>(replica: &mut Replica<D>, batch: &Batch, came: Came) -> bool {
 }
 
 /// Whether the rows stand so in the replica.
-fn has_rows<D: Disk>(replica: &mut Replica<D>, rows: &[Row]) -> bool {
+fn has_rows(replica: &mut Replica<Device>, rows: &[Row]) -> bool {
     let mut right = true;
     for row in rows {
         right = right && has_row(replica, *row);
@@ -169,10 +171,10 @@ fn comes_so<R: Threads + Wait + Sync>(
 ) -> Result<bool, Refusal> {
     let (stop, until) = trial.held;
     let pace = HeldWorkers::new(stop, until);
-    let disk = disk_for(alloc, trial.is_wide)?;
+    let disk = sound(disk_for(alloc, trial.is_wide)?);
     let (mut replica, batch) = served(rt, alloc, disk, items, trial.workers, &pace)?;
     let is_so = is_so(&mut replica, &batch, trial.came) && has_rows(&mut replica, trial.rows);
-    Ok(is_durable(alloc, replica.into_disk(), trial.came) && is_so)
+    Ok(is_durable(alloc, replica.into_disk().into_inner(), trial.came) && is_so)
 }
 
 #[test]
@@ -209,17 +211,26 @@ pub(crate) fn told_of(batch: &Batch, durable: u64) -> Result<usize, Refusal> {
 
 /// Serves two items by two workers on a disk with these faults. The worker of the first is held behind its verdict until the other has its
 /// own. It says how many are told of, and are there after a crash that loses all that was not stable; and refuses as opening the disk does.
-fn told_on<R: Threads + Wait + Sync, F: Faults + Drop + Send>(
+fn told_on<R: Threads + Wait + Sync>(
     rt: &R,
     alloc: Global,
     items: &[Item],
-    faults: F,
+    faults: Failing,
 ) -> Result<usize, Refusal> {
     let pace = HeldWorkers::new(None, Some(2));
     let disk = FaultyDisk::new(new_disk(alloc)?, faults);
     let (replica, batch) = served(rt, alloc, disk, items, 2, &pace)?;
     let durable = durable_after_crash(alloc, replica.into_disk().into_inner())?;
     told_of(&batch, durable)
+}
+
+/// That this call fails, alone or with all behind it.
+pub(crate) fn failing(call: u64, all_behind: bool) -> Failing {
+    if all_behind {
+        Failing::Behind(Fuse::after(call))
+    } else {
+        Failing::Once(Once::after(call))
+    }
 }
 
 /// The same on a disk of which this call fails: that one alone, or all behind it too.
@@ -230,11 +241,7 @@ fn told_at<R: Threads + Wait + Sync>(
     call: u64,
     all_behind: bool,
 ) -> Result<usize, Refusal> {
-    if all_behind {
-        told_on(rt, alloc, items, Fuse::after(call))
-    } else {
-        told_on(rt, alloc, items, Once::after(call))
-    }
+    told_on(rt, alloc, items, failing(call, all_behind))
 }
 
 /// More calls than the opening and a batch of two make.

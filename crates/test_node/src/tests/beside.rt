@@ -5,13 +5,13 @@ ghost use Rattle.std.specs.Thread.{IsSync};
 ghost use Rattle.rep_ordered.specs.Going.{Goes};
 ghost use Rattle.test_node.specs.Running.{HasReader};
 
-use super::batches::{CALLS, told_of};
+use super::batches::{CALLS, failing, told_of};
 use super::paces::Queueing;
 use super::replicas::{
-    Found, OTHER, ROW, durable_after_crash, is_whole, new_disk, opened, writing,
+    Failing, Found, OTHER, ROW, durable_after_crash, is_whole, new_disk, opened, sound, writing,
 };
 use super::running::found_by_peek;
-use rep_disk::{Disk, Faults, FaultyDisk, Fuse, Once};
+use rep_disk::{Disk, FaultyDisk};
 use rep_node::{Batch, Node, NodeReader, Seat};
 use rep_replica::Replica;
 use rep_types::{Item, Refusal};
@@ -188,22 +188,22 @@ fn ended<R: Threads + Wait + Clock + Sync, D: Disk + Drop + Send>(
 #[test]
 fn two_certifies_while_one_is_held(rt: HostRuntime) -> Result<(), Fail> {
     let items = two_items(rt.alloc())?;
-    let disk = new_disk(rt.alloc())?;
+    let disk = sound(new_disk(rt.alloc())?);
     let (replica, batch, seen) = ended(&rt, rt.alloc(), disk, &items, Beside::Keep)?;
     assert!(rt; is_whole(&replica, &batch, 2, 0));
     assert!(rt; seen == Ok(BOTH));
-    assert!(rt; durable_after_crash(rt.alloc(), replica.into_disk()) == Ok(2));
+    assert!(rt; durable_after_crash(rt.alloc(), replica.into_disk().into_inner()) == Ok(2));
     Ok(())
 }
 
 /// Runs a node on a disk with these faults, and has both items made durable once their workers sleep. It says how many are told of, and are
 /// there after a crash that loses all that was not stable; and refuses as opening the disk does, and with `NotDue` unless the workers end as
 /// the keeper does: all are stopped and so is the replica, or both items are seen.
-fn told_on<R: Threads + Wait + Clock + Sync, F: Faults + Drop + Send>(
+fn told_on<R: Threads + Wait + Clock + Sync>(
     rt: &R,
     alloc: Global,
     items: &[Item],
-    faults: F,
+    faults: Failing,
 ) -> Result<usize, Refusal> {
     let disk = FaultyDisk::new(new_disk(alloc)?, faults);
     let (replica, batch, seen) = ended(rt, alloc, disk, items, Beside::KeepLate)?;
@@ -226,11 +226,7 @@ fn told_at<R: Threads + Wait + Clock + Sync>(
     call: u64,
     all_behind: bool,
 ) -> Result<usize, Refusal> {
-    if all_behind {
-        told_on(rt, alloc, items, Fuse::after(call))
-    } else {
-        told_on(rt, alloc, items, Once::after(call))
-    }
+    told_on(rt, alloc, items, failing(call, all_behind))
 }
 
 /// Whether a halt ends the batch where nobody keeps: both items were queued, their workers were woken, neither is told of, and the replica
@@ -240,7 +236,7 @@ fn is_ended_by_a_halt<R: Threads + Wait + Clock + Sync>(
     alloc: Global,
     items: &[Item],
 ) -> Result<bool, Refusal> {
-    let disk = new_disk(alloc)?;
+    let disk = sound(new_disk(alloc)?);
     let (replica, batch, seen) = ended(rt, alloc, disk, items, Beside::Halt)?;
     let is_halted = seen == Err(Refusal::Stopped) && replica.is_stopped();
     Ok(is_halted && batch.receipts.is_empty() && batch.end == Some(Refusal::Stopped))

@@ -1,9 +1,9 @@
 //! What is read beside a node whose device fails.
 
-use super::replicas::{Found, ROW, opened};
+use super::replicas::{Device, Failing, Found, ROW, opened};
 use super::running::Running;
 use super::steps::{Answer, Call, Step, gone};
-use rep_disk::{Disk, Fuse, FuseDisk, MemDisk};
+use rep_disk::{FaultyDisk, Fuse, MemDisk};
 use rep_types::{Refusal, Verdict};
 use std::alloc::Global;
 use std::process::Abort;
@@ -24,18 +24,14 @@ const BASED: &[Step] = &[
 fn based<R: Threads + Wait + Sync + Abort>(rt: &R, alloc: Global) -> Result<MemDisk, Refusal> {
     let node = gone(rt, alloc, BASED)?;
     let (replica, _reader) = node.close(rt);
-    Ok(replica.into_disk())
+    Ok(replica.into_disk().into_inner())
 }
 
 /// What two reads of a row of the base were answered, one after the other, and whether the node was halted then.
 type Twice = (Found, Found, bool);
 
 /// Reads the row twice beside a node on a disk; or nothing where the disk can't be opened.
-fn reads_twice<R: Wait, D: Disk + Drop>(
-    rt: &R,
-    alloc: Global,
-    disk: D,
-) -> Result<Option<Twice>, Refusal> {
+fn reads_twice<R: Wait>(rt: &R, alloc: Global, disk: Device) -> Result<Option<Twice>, Refusal> {
     let Ok(replica) = opened(alloc, disk) else {
         return Ok(None);
     };
@@ -67,7 +63,8 @@ fn fails_in_a_read<R: Threads + Wait + Sync + Abort>(rt: &R, alloc: Global) -> R
     let mut halting: u64 = 0;
     for calls in 0..CALLS {
         let copy = MemDisk::from_bytes(alloc, disk.bytes())?;
-        if let Some(twice) = reads_twice(rt, alloc, FuseDisk::new(copy, Fuse::after(calls)))? {
+        let disk = FaultyDisk::new(copy, Failing::Behind(Fuse::after(calls)));
+        if let Some(twice) = reads_twice(rt, alloc, disk)? {
             assert!(rt;
                 is_halting(twice) || is_answered(twice),
                 "behind {calls} calls"

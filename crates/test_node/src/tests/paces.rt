@@ -4,6 +4,7 @@ use crossbeam_utils::Backoff;
 use crossbeam_utils::atomic::AtomicCell;
 use rep_disk::Hold;
 use rep_node::{Pace, Point};
+use std::sync::Arc;
 use std::thread::sleep;
 use std::time::{Clock, Duration};
 
@@ -151,9 +152,9 @@ impl Pace for Crossing {
 
 /// The hold of the disk in a crossing.
 #[derive(Drop)]
-pub(crate) struct Writes<'c>(pub(crate) &'c Crossing);
+pub(crate) struct Writes(pub(crate) Arc<Crossing>);
 
-impl Hold for Writes<'_> {
+impl Hold for Writes {
     fn may_go(&self) -> bool {
         self.0.has_begun.store(true);
         self.0.is_queued.load()

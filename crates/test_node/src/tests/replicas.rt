@@ -1,7 +1,8 @@
 //! Replicas, batches, what comes of a batch that is served, and what is found of a row: each call stands here once, in a function that promises nothing, so that
 //! no test has to be proved beside its contract.
 
-use rep_disk::{Disk, Loss, MemDisk};
+use super::paces::Writes;
+use rep_disk::{Call, Disk, Faults, FaultyDisk, Fuse, Held, Loss, MemDisk, Once};
 use rep_layout::need;
 use rep_node::{Batch, Pace, serve_batch};
 use rep_recover::format_disk;
@@ -18,6 +19,40 @@ pub(crate) const ROW: Key = Key { table: 0, row: 1 };
 pub(crate) const OTHER: Key = Key { table: 0, row: 2 };
 
 pub(crate) const OUTSIDE: Key = Key { table: 0, row: 126 };
+
+/// Which calls of a disk fail.
+#[derive(Drop)]
+pub(crate) enum Failing {
+    /// None.
+    Never,
+    /// All behind so many.
+    Behind(Fuse),
+    /// One.
+    Once(Once),
+    /// None, and a write may wait.
+    Held(Held<Writes>),
+}
+
+impl Faults for Failing {
+    ghost says = { λ old call fails new. Unit {0} };
+
+    fn fails(&mut self, call: Call) -> bool {
+        match self {
+            Failing::Never => false,
+            Failing::Behind(fuse) => fuse.fails(call),
+            Failing::Once(once) => once.fails(call),
+            Failing::Held(held) => held.fails(call),
+        }
+    }
+}
+
+/// A disk in memory some of whose calls fail. All tests have this one, since what they call is compiled once for each kind of disk.
+pub(crate) type Device = FaultyDisk<MemDisk, Failing>;
+
+/// A disk in memory none of whose calls fails.
+pub(crate) fn sound(disk: MemDisk) -> Device {
+    FaultyDisk::new(disk, Failing::Never)
+}
 
 /// A formatted disk in memory with these parameters.
 pub(crate) fn formatted(alloc: Global, params: &Params) -> Result<MemDisk, Refusal> {
@@ -44,7 +79,7 @@ pub(crate) fn opened<D: Disk + Drop>(alloc: Global, disk: D) -> Result<Replica<D
 pub(crate) fn durable_after_crash(alloc: Global, disk: MemDisk) -> Result<u64, Refusal> {
     let mut disk = disk;
     disk.crash(Loss::Drop);
-    let replica = opened(alloc, disk)?;
+    let replica = opened(alloc, sound(disk))?;
     Ok(replica.durable())
 }
 
@@ -84,14 +119,14 @@ pub(crate) fn putting_each(alloc: Global, count: u32) -> Result<Vec<Item>, Refus
 ///
 /// Refuses as opening the disk does; and with `Undefined` a replica that is not quiet or of no cluster, or a number of workers that may
 /// not be.
-pub(crate) fn served<R: Threads + Wait + Sync, D: Disk + Drop + Send, P: Pace + Sync>(
+pub(crate) fn served<R: Threads + Wait + Sync, P: Pace + Sync>(
     rt: &R,
     alloc: Global,
-    disk: D,
+    disk: Device,
     items: &[Item],
     workers: usize,
     pace: &P,
-) -> Result<(Replica<D>, Batch), Refusal> {
+) -> Result<(Replica<Device>, Batch), Refusal> {
     let replica = opened(alloc, disk)?;
     if !replica.is_quiet() || replica.uuid().is_nil() || workers == 0 || workers > 64 {
         return Err(Refusal::Undefined);
@@ -100,8 +135,8 @@ pub(crate) fn served<R: Threads + Wait + Sync, D: Disk + Drop + Send, P: Pace + 
 }
 
 /// Whether in the state after so many items the byte that its item put there stands under the row, or nothing where that is asked.
-pub(crate) fn has_row<D: Disk>(
-    replica: &mut Replica<D>,
+pub(crate) fn has_row(
+    replica: &mut Replica<Device>,
     (row, at, is_there): (u32, u64, bool),
 ) -> bool {
     match replica.read(Key { table: 0, row }, at) {
@@ -131,12 +166,7 @@ fn has_verdicts(batch: &Batch, commits: u64, stale: u64) -> bool {
 
 /// Whether a batch of so many items that commit and, behind them, so many that are stale came to its end, and all is durable in the
 /// replica that it left.
-pub(crate) fn is_whole<D: Disk>(
-    replica: &Replica<D>,
-    batch: &Batch,
-    commits: u64,
-    stale: u64,
-) -> bool {
+pub(crate) fn is_whole(replica: &Replica<Device>, batch: &Batch, commits: u64, stale: u64) -> bool {
     has_verdicts(batch, commits, stale)
         && batch.end.is_none()
         && replica.durable() == commits.saturating_add(stale)

@@ -1,7 +1,8 @@
 //! Rows are moved and swapped through sessions of a replica on a disk in memory, also beside an item that changes one of them.
 
-use super::replicas::{Found, OTHER, OUTSIDE, ROW, found_by_read, new_disk, opened, writing};
-use rep_disk::MemDisk;
+use super::replicas::{
+    Device, Found, OTHER, OUTSIDE, ROW, found_by_read, new_disk, opened, sound, writing,
+};
 use rep_replica::Replica;
 use rep_session::Finished;
 use rep_steps::{Answer, Event};
@@ -11,7 +12,7 @@ use std::process::Abort;
 use uses_session::{move_row, swap_rows};
 
 /// A replica on a disk in memory.
-type Rows = Replica<MemDisk>;
+type Rows = Replica<Device>;
 
 /// What is done with two rows.
 #[derive(Clone, Copy)]
@@ -161,7 +162,7 @@ fn is_so(rows: &mut Rows, trial: &Trial) -> Result<bool, Refusal> {
 
 /// The same of a new replica.
 fn comes_so(alloc: Global, trial: &Trial) -> Result<bool, Refusal> {
-    let mut rows = opened(alloc, new_disk(alloc)?)?;
+    let mut rows = opened(alloc, sound(new_disk(alloc)?))?;
     is_so(&mut rows, trial)
 }
 

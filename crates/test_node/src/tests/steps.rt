@@ -1,9 +1,8 @@
 //! What is done to a node with one seat and one reader, step by step, and what each step answers.
 
 use super::paces::{AtOnce, Never};
-use super::replicas::{Found, new_disk, opened, put, putting_each, writing};
+use super::replicas::{Device, Found, new_disk, opened, put, putting_each, sound, writing};
 use super::running::Running;
-use rep_disk::MemDisk;
 use rep_session::{Finished, Session};
 use rep_types::{Key, Refusal, Verdict, Write, WriteSet};
 use std::alloc::Global;
@@ -12,7 +11,7 @@ use std::sync::Wait;
 use std::thread::Threads;
 
 /// A node on a disk in memory.
-pub(crate) type Node = Running<MemDisk>;
+pub(crate) type Node = Running<Device>;
 
 /// What is done to a node, or in the transaction that was begun last.
 #[derive(Clone, Copy)]
@@ -248,7 +247,7 @@ pub(crate) fn gone<R: Threads + Wait + Sync + Abort>(
     alloc: Global,
     steps: &[Step],
 ) -> Result<Node, Refusal> {
-    let replica = opened(alloc, new_disk(alloc)?)?;
+    let replica = opened(alloc, sound(new_disk(alloc)?))?;
     let node = Running::start(rt, alloc, replica)?;
     Ok(goes(rt, alloc, node, steps))
 }
