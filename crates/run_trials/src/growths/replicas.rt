@@ -196,7 +196,11 @@ fn looked_at(
 
 /// The same of a replica that is opened again after a stop.
 fn served_and_looked_at(alloc: Global) -> Result<(u64, u64, usize, usize), Refusal> {
-    looked_at(alloc, &mut opened(alloc, served(alloc)?)?)
+    let mut replica = opened(alloc, served(alloc)?)?;
+    let seen = looked_at(alloc, &mut replica);
+    // (taken apart: each place where a whole one goes by itself is dear to prove)
+    let _disk = replica.into_disk();
+    seen
 }
 
 /// Where the base stands, how many items are durable, how many reads then find a row, and how many entries the window has.
