@@ -56,6 +56,11 @@ fn new_replica<D: Disk + Drop>(alloc: Global, disk: D) -> Result<Replica<D>, Ref
     }
 }
 
+/// Lets a replica go. It is taken apart for that: each place where a whole one goes by itself is dear to prove.
+fn let_go<D: Disk + Drop>(replica: Replica<D>) {
+    let _disk = replica.into_disk();
+}
+
 /// Brings the replica to where it has nothing left to do.
 ///
 /// Refuses as `Replica::settle` does, and with `Undefined` where the replica belongs to no cluster.
@@ -90,7 +95,10 @@ fn started<R: Wait, D: Disk + Drop>(
 {
     match Node::start(alloc, rt, replica, readers) {
         Ok(made) => Ok(made),
-        Err((_, refusal)) => Err(refusal),
+        Err((replica, refusal)) => {
+            let_go(replica);
+            Err(refusal)
+        }
     }
 }
 
@@ -138,7 +146,10 @@ fn serve_settled<R: Clock + Threads + Wait + Sync, D: Disk + Drop + Send>(
     let (node, mut seat, watching) = started(rt, alloc, replica, readers.max(1))?;
     watchers.start(rt, watching, readers);
     let came = serve_watched(rt, alloc, &node, &mut seat, items, workers, watchers);
-    Ok((node.close(rt, seat).durable(), came))
+    let replica = node.close(rt, seat);
+    let durable = replica.durable();
+    let_go(replica);
+    Ok((durable, came))
 }
 
 /// Serves the batch at a node on a disk that is formatted first, by so many workers, 1 to 64, with so many readers beside, at most 64. It
@@ -158,6 +169,11 @@ pub(crate) fn serve_on<R: Clock + Threads + Wait + Sync, D: Disk + Drop + Send>(
     requires readers { readers ≤ 64 }
 {
     let mut replica = new_replica(alloc, disk)?;
-    settle(&mut replica)?;
-    serve_settled(rt, alloc, replica, items, workers, readers, watchers)
+    match settle(&mut replica) {
+        Ok(()) => serve_settled(rt, alloc, replica, items, workers, readers, watchers),
+        Err(refusal) => {
+            let_go(replica);
+            Err(refusal)
+        }
+    }
 }
