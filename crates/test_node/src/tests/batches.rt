@@ -2,8 +2,8 @@
 
 use super::paces::{Crossing, Held as HeldWorkers, Writes};
 use super::replicas::{
-    Device, Failing, durable_after_crash, formatted, has_row, is_whole, new_disk, putting_each,
-    served, sound,
+    Device, Failing, durable_after_crash, formatted, has_row, is_whole, let_go, new_disk,
+    putting_each, served, sound,
 };
 use rep_disk::{FaultyDisk, Fuse, Held, MemDisk, Once};
 use rep_node::{Batch, Point};
@@ -26,7 +26,9 @@ fn while_the_engine_writes<R: Threads + Wait + Sync>(
     let writes = Writes(Arc::try_clone(&crossing)?);
     let disk = FaultyDisk::new(new_disk(alloc)?, Failing::Held(Held::by(writes)));
     let (replica, batch) = served(rt, alloc, disk, items, 2, &*crossing)?;
-    Ok(is_whole(&replica, &batch, 2, 0))
+    let is_whole = is_whole(&replica, &batch, 2, 0);
+    let_go(replica);
+    Ok(is_whole)
 }
 
 #[test]

@@ -8,7 +8,8 @@ ghost use Rattle.test_node.specs.Running.{HasReader};
 use super::batches::{CALLS, failing, told_of};
 use super::paces::Queueing;
 use super::replicas::{
-    Failing, Found, OTHER, ROW, durable_after_crash, is_whole, new_disk, opened, sound, writing,
+    Failing, Found, OTHER, ROW, durable_after_crash, is_whole, let_go, new_disk, opened, sound,
+    writing,
 };
 use super::running::found_by_peek;
 use rep_disk::{Disk, FaultyDisk};
@@ -158,11 +159,15 @@ fn ended<R: Threads + Wait + Clock + Sync, D: Disk + Drop + Send>(
 ) -> Result<Ended<D>, Refusal> {
     let replica = opened(alloc, disk)?;
     if !replica.is_quiet() || replica.uuid().is_nil() || replica.durable() > 0 {
+        let_go(replica);
         return Err(Refusal::Undefined);
     }
     let (node, mut seat, mut readers) = match Node::start(alloc, rt, replica, 1) {
         Ok(made) => made,
-        Err((_, refusal)) => return Err(refusal),
+        Err((replica, refusal)) => {
+            let_go(replica);
+            return Err(refusal);
+        }
     };
     let Some(mut reader) = readers.pop() else {
         unreachable!()
@@ -207,14 +212,16 @@ fn told_on<R: Threads + Wait + Clock + Sync>(
 ) -> Result<usize, Refusal> {
     let disk = FaultyDisk::new(new_disk(alloc)?, faults);
     let (replica, batch, seen) = ended(rt, alloc, disk, items, Beside::KeepLate)?;
+    let is_stopped = replica.is_stopped();
+    let disk = replica.into_disk().into_inner();
     let wanted = match batch.end {
         Some(refusal) => Err(refusal),
         None => Ok(BOTH),
     };
-    if seen != wanted || replica.is_stopped() != batch.end.is_some() {
+    if seen != wanted || is_stopped != batch.end.is_some() {
         return Err(Refusal::NotDue);
     }
-    let durable = durable_after_crash(alloc, replica.into_disk().into_inner())?;
+    let durable = durable_after_crash(alloc, disk)?;
     told_of(&batch, durable)
 }
 
@@ -239,6 +246,7 @@ fn is_ended_by_a_halt<R: Threads + Wait + Clock + Sync>(
     let disk = sound(new_disk(alloc)?);
     let (replica, batch, seen) = ended(rt, alloc, disk, items, Beside::Halt)?;
     let is_halted = seen == Err(Refusal::Stopped) && replica.is_stopped();
+    let_go(replica);
     Ok(is_halted && batch.receipts.is_empty() && batch.end == Some(Refusal::Stopped))
 }
 

@@ -1,6 +1,6 @@
 //! What is read beside a node whose device fails.
 
-use super::replicas::{Device, Failing, Found, ROW, opened};
+use super::replicas::{Device, Failing, Found, ROW, let_go, opened};
 use super::running::Running;
 use super::steps::{Answer, Call, Step, gone};
 use rep_disk::{FaultyDisk, Fuse, MemDisk};
@@ -39,7 +39,9 @@ fn reads_twice<R: Wait>(rt: &R, alloc: Global, disk: Device) -> Result<Option<Tw
     let (node, first) = node.read(rt, ROW, 1);
     let (node, second) = node.read(rt, ROW, 1);
     let (replica, _reader) = node.close(rt);
-    Ok(Some((first, second, replica.is_stopped())))
+    let is_stopped = replica.is_stopped();
+    let_go(replica);
+    Ok(Some((first, second, is_stopped)))
 }
 
 /// Whether the first read met a device that failed, and the second a node that was halted by that.

@@ -1,7 +1,7 @@
 //! What is read beside a node, and by transactions that go through a session: of what is published, and of its engine.
 
 use super::limits::LIMITS;
-use super::replicas::{Found, OTHER, OUTSIDE, ROW};
+use super::replicas::{Found, OTHER, OUTSIDE, ROW, let_go};
 use super::running::found_by_peek;
 use super::steps::{Answer, Call, Step, gone};
 use rep_node::NodeReader;
@@ -213,6 +213,7 @@ fn is_left<R: Threads + Wait + Sync + Abort>(
     let node = gone(rt, alloc, steps)?;
     let (replica, reader) = node.close(rt);
     let found = (replica.durable(), replica.base(), replica.is_stopped());
+    let_go(replica);
     let wanted = (
         Found::Refused(Refusal::Closed),
         Found::Refused(Refusal::BadKey),

@@ -75,12 +75,19 @@ pub(crate) fn opened<D: Disk + Drop>(alloc: Global, disk: D) -> Result<Replica<D
     }
 }
 
+/// Lets a replica go. It is taken apart for that: each place where a whole one goes by itself is dear to prove.
+pub(crate) fn let_go<D: Disk + Drop>(replica: Replica<D>) {
+    let _disk = replica.into_disk();
+}
+
 /// How many items are durable in what opens of the disk after a crash that loses all that was not stable.
 pub(crate) fn durable_after_crash(alloc: Global, disk: MemDisk) -> Result<u64, Refusal> {
     let mut disk = disk;
     disk.crash(Loss::Drop);
     let replica = opened(alloc, sound(disk))?;
-    Ok(replica.durable())
+    let durable = replica.durable();
+    let_go(replica);
+    Ok(durable)
 }
 
 /// The byte that an item puts under a row of its own: `a` under the first, `b` under the second, and `c` under the others.
@@ -129,6 +136,7 @@ pub(crate) fn served<R: Threads + Wait + Sync, P: Pace + Sync>(
 ) -> Result<(Replica<Device>, Batch), Refusal> {
     let replica = opened(alloc, disk)?;
     if !replica.is_quiet() || replica.uuid().is_nil() || workers == 0 || workers > 64 {
+        let_go(replica);
         return Err(Refusal::Undefined);
     }
     Ok(serve_batch(rt, alloc, replica, items, workers, pace))

@@ -2,7 +2,7 @@
 //! nothing, so that no test has to be proved beside its contract.
 
 use super::paces::AtOnce;
-use super::replicas::{Found, found_by_read, put};
+use super::replicas::{Found, found_by_read, let_go, put};
 use rep_disk::Disk;
 use rep_node::{Batch, Node, NodeReader, NodeRows, Pace, Seat};
 use rep_replica::Replica;
@@ -64,6 +64,7 @@ impl<D: Disk + Drop> Running<D> {
         replica: Replica<D>,
     ) -> Result<Running<D>, Refusal> {
         if !replica.is_quiet() || replica.uuid().is_nil() {
+            let_go(replica);
             return Err(Refusal::Undefined);
         }
         match Node::start(alloc, rt, replica, 1) {
@@ -71,7 +72,10 @@ impl<D: Disk + Drop> Running<D> {
                 Some(reader) => Ok(Running { node, seat, reader }),
                 None => unreachable!(),
             },
-            Err((_, refusal)) => Err(refusal),
+            Err((replica, refusal)) => {
+                let_go(replica);
+                Err(refusal)
+            }
         }
     }
 }

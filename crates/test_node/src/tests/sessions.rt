@@ -1,7 +1,7 @@
 //! Rows are moved and swapped through sessions of a replica on a disk in memory, also beside an item that changes one of them.
 
 use super::replicas::{
-    Device, Found, OTHER, OUTSIDE, ROW, found_by_read, new_disk, opened, sound, writing,
+    Device, Found, OTHER, OUTSIDE, ROW, found_by_read, let_go, new_disk, opened, sound, writing,
 };
 use rep_replica::Replica;
 use rep_session::Finished;
@@ -163,7 +163,9 @@ fn is_so(rows: &mut Rows, trial: &Trial) -> Result<bool, Refusal> {
 /// The same of a new replica.
 fn comes_so(alloc: Global, trial: &Trial) -> Result<bool, Refusal> {
     let mut rows = opened(alloc, sound(new_disk(alloc)?))?;
-    is_so(&mut rows, trial)
+    let came = is_so(&mut rows, trial);
+    let_go(rows);
+    came
 }
 
 #[test]
