@@ -138,7 +138,9 @@ class Refusing:
             for edit, goal, head, tactic in self.proved_by(asked) if asked else ():
                 if edit.name not in chosen:
                     chosen[edit.name] = goal
-                    self.put(edit, goal, head, tactic, self.home)
+                    # (another wrong body of the function may have had it written)
+                    if not alone(goal, wrong_bodies.text_of(self.home, os.path.join("proofs", *edit.proofs[0], "Answers.antt"))):
+                        self.put(edit, goal, head, tactic, self.home)
         return chosen
 
     def write(self):
@@ -157,6 +159,9 @@ class Refusing:
 
 
 def find(kit, crate, paths):
-    """Finds the goals of these edits of a crate. Gives for how many there is one."""
+    """Finds the goals of these edits of a crate, where they name none. Gives how many have one then."""
+    left = [it for it in paths if not re.search(r"^by:", wrong_bodies.text_in(it), re.M)]
+    if not left:
+        return len(paths)
     with tempfile.TemporaryDirectory(prefix="refusing-") as room:
-        return Refusing(kit, crate, paths, room).write()
+        return len(paths) - len(left) + Refusing(kit, crate, left, room).write()

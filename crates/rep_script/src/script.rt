@@ -178,6 +178,14 @@ fn run_line<D: Disk, W: Sink>(
     run_other(alloc, replica, words, number, writer)
 }
 
+/// Gives the outcome, and takes the replica apart: let go as a whole, wherever a script may end, it would be most of what the proof costs.
+fn let_go(replica: Replica<MemDisk>, outcome: Result<(), Refusal>) -> Result<(), Refusal>
+    ensures { result ≡ outcome }
+{
+    let _disk = replica.into_disk();
+    outcome
+}
+
 /// Runs the rest of a script at a replica on a new disk in memory. The last answers wait.
 fn run_in_memory<R: Source, W: Sink>(
     alloc: Global,
@@ -194,20 +202,30 @@ fn run_in_memory<R: Source, W: Sink>(
 {
     let mut line = ArrayVec::new();
     let mut item = no_effect();
-    'lines: while next_line(text, reader, &mut line, writer, waiting)? {
-        if let Some(loss) = run_line(
+    'lines: loop {
+        match next_line(text, reader, &mut line, writer, waiting) {
+            Ok(true) => {}
+            Ok(false) => return let_go(replica, Ok(())),
+            Err(refusal) => return let_go(replica, Err(refusal)),
+        }
+        match run_line(
             alloc,
             &mut replica,
             &line,
             text.number(),
             &mut item,
             waiting,
-        )? {
-            replica = stopped_and_opened(alloc, replica, loss)?;
-            write_open(waiting, replica.gtid())?;
+        ) {
+            Ok(None) => {}
+            Ok(Some(loss)) => {
+                replica = stopped_and_opened(alloc, replica, loss)?;
+                if let Err(refusal) = write_open(waiting, replica.gtid()) {
+                    return let_go(replica, Err(refusal));
+                }
+            }
+            Err(refusal) => return let_go(replica, Err(refusal)),
         }
     }
-    Ok(())
 }
 
 /// Runs the rest of a script at a replica on a new disk in memory, and writes what came of it.

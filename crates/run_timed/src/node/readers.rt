@@ -129,8 +129,11 @@ impl Watchers {
     }
 
     /// Starts so many of the readers, as far as there are threads and room for their handles.
-    pub(crate) fn start<R: Threads>(&mut self, rt: &R, readers: Vec<NodeReader>, count: usize) {
-        for reader in readers.into_iter().take(count) {
+    pub(crate) fn start<R: Threads>(&mut self, rt: &R, mut readers: Vec<NodeReader>, count: usize) {
+        for _ in 0..count {
+            let Some(reader) = readers.pop() else {
+                break;
+            };
             let Some(thread) = started(rt, reader, &self.over) else {
                 break;
             };

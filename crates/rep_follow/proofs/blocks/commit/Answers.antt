@@ -1,4 +1,4 @@
-use Rattle.std.proofs.Common.{◌∙◌, sym, refl, Err, arith}
+use Rattle.std.proofs.Common.{◌∙◌, sym, refl, Err, arith, rules}
 use Rattle.rep_types.specs.declared.refusal.Refusal.TheVariants.{Stopped}
 use Rattle.rep_follow.proofs.Committing.{told_stopped, told_idle, none_waits}
 use Rattle.rep_follow.proofs.Beginning.{tells_begun, begun_why}
@@ -24,3 +24,6 @@ returns-in-Ok-clause-tells g c =
 
 pub returns-in-Ok-clause-refused : goal.returns-in-Ok-clause-refused
 returns-in-Ok-clause-refused g c = begun_why g.D.Disk c.commit_all.new.replica c.begin_if_due.new.replica c.begin_if_due.result c.begin_if_due.ensures
+
+pub returns-in-Ok-clause-none : goal.returns-in-Ok-clause-none
+returns-in-Ok-clause-none g c = search rules

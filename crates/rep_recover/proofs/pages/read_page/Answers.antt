@@ -1,4 +1,4 @@
-use Rattle.std.proofs.Common.{◌≡◌, ℕ, List, [], Some, inr, Result, IfErr, sym, subst, ◌∙◌}
+use Rattle.std.proofs.Common.{◌≡◌, ℕ, List, [], Some, inr, Result, IfErr, sym, subst, ◌∙◌, rules}
 use Rattle.std.proofs.lemmas.Result.{err_from_is_err_and}
 use Rattle.std.proofs.lemmas.Option.{same_Some}
 use Rattle.rep_types.specs.declared.refusal.Refusal.{Refusal}
@@ -42,3 +42,6 @@ returns-in_err-check_body-clause-refused g c =
     ) in
     let err = err_from_is_err_and c.from_residual.result c.from_residual.ensures.1 in
     subst (λ (x : Result _ Refusal). IfErr x P) (sym err.1) (subst P (sym err.2) refuses)
+
+pub returns-clause-found : goal.returns-clause-found
+returns-clause-found g c = search rules

@@ -1,4 +1,4 @@
-use Rattle.std.proofs.Common.{◌≡◌, ◌⊎◌, inr, Result, IfErr, sym, subst}
+use Rattle.std.proofs.Common.{◌≡◌, ◌⊎◌, inr, Result, IfErr, sym, subst, rules}
 use Rattle.std.proofs.lemmas.Result.{err_from_is_err_and}
 use Rattle.rep_types.specs.declared.refusal.Refusal.{Refusal}
 use Rattle.rep_types.specs.declared.refusal.Refusal.TheVariants.{OutOfMemory, Corrupt}
@@ -15,3 +15,6 @@ returns-in_err-reader-clause-refused c =
     let refuses : P c.in_err-reader.field-0.0 = inr (e.refused, λ v is spelled. (let other = e.only v is spelled in absurd cc)) in
     let err = err_from_is_err_and c.from_residual.result c.from_residual.ensures.1 in
     subst (λ (r : Result _ Refusal). IfErr r P) (sym err.1) (subst P (sym err.2) refuses)
+
+pub returns-clause-form : goal.returns-clause-form
+returns-clause-form c = search rules

@@ -1,4 +1,4 @@
-use Rattle.std.proofs.Common.{Err, sym, ap, subst, ◌∙◌}
+use Rattle.std.proofs.Common.{Err, sym, ap, subst, ◌∙◌, rules}
 use Rattle.std.proofs.lemmas.Result.{err_from_is_err_and}
 use Rattle.rep_script.specs.ScriptLines.{script_line}
 use Rattle.rep_script.specs.Judging.{content}
@@ -16,3 +16,6 @@ returns-in_err-run_line-clause-runs g c =
     (sym (content_on_disk c.args.number c.args.line.now))
     (fails_on_disk g.D.Disk c.args.replica.now c.run_line.new.replica c.args.number said c.from_residual.result c.in_err-run_line.field-0.0
     (q.1 ∙ ap Err q.2) runs)
+
+pub returns-in-Some-clause-runs : goal.returns-in-Some-clause-runs
+returns-in-Some-clause-runs g c = search rules

@@ -1,4 +1,4 @@
-use Rattle.std.proofs.Common.{[], ◌∙◌, Ok, Err, inr, ap}
+use Rattle.std.proofs.Common.{[], ◌∙◌, Ok, Err, inr, ap, rules}
 use Rattle.rep_types.specs.Windows.{Window}
 use Rattle.rep_types.specs.declared.refusal.Refusal.TheVariants.{Malformed}
 use Rattle.rep_service.specs.Saying.{receipts_said}
@@ -26,3 +26,6 @@ returns-in-Err-window-clause-lives g c = λ rests. (let tells = c.in_default.ens
 
 pub returns-in-Err-clause-own : goal.returns-in-Err-clause-own
 returns-in-Err-clause-own g c = own_by c.in-Err.refusal (own_told g.D.Disk c.finish.new.replica c.in-Err.refusal c.in-Err.ensures.refused)
+
+pub returns-in-Err-clause-ends : goal.returns-in-Err-clause-ends
+returns-in-Err-clause-ends g c = search rules

@@ -94,3 +94,6 @@ returns-clause-receipt g c = grind (arith, common_steps)
 
 pub returns-clause-paced : goal.returns-clause-paced
 returns-clause-paced g c = search rules
+
+pub returns-in_err-paced-2-clause-joined : goal.returns-in_err-paced-2-clause-joined
+returns-in_err-paced-2-clause-joined g c = search rules

@@ -1,4 +1,4 @@
-use Rattle.std.proofs.Common.{◌≡◌, sym, ◌∙◌}
+use Rattle.std.proofs.Common.{◌≡◌, sym, ◌∙◌, rules}
 use Rattle.rep_steps.specs.Standings.{Off}
 use Rattle.rep_replica.specs.Replicas.{facts_of}
 use Rattle.rep_replica.proofs.Committing.{ok_at}
@@ -14,3 +14,6 @@ returns-in-Ok-clause-commits g c = λ runs some.
 pub returns-in-Err-clause-commits : goal.returns-in-Err-clause-commits
 returns-in-Err-clause-commits g c = λ runs some.
     freed_ended g.D.Disk c.runs_are_joined.ensures c.args.pages c.args.self.now c.free_cell.new.self c.in-Err.refusal (sym c.is_full.ensures.full ∙ c.if-not-is_full.false) c.in-Err.ensures.frees
+
+pub returns-then-has_none-clause-commits : goal.returns-then-has_none-clause-commits
+returns-then-has_none-clause-commits g c = search rules

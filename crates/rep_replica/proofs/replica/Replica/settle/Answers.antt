@@ -1,4 +1,4 @@
-use Rattle.std.proofs.Common.{Result, subst}
+use Rattle.std.proofs.Common.{Result, subst, rules}
 use Rattle.rep_types.specs.declared.refusal.Refusal.{Refusal}
 use Rattle.rep_replica.specs.Settling.{Works}
 use Rattle.rep_replica.proofs.Settling.{works_then, ok_of, ok_on}
@@ -30,3 +30,6 @@ pub returns-then-is_err-2-clause-works : goal.returns-then-is_err-2-clause-works
 returns-then-is_err-2-clause-works g c = λ runs.
     works_then g.D.Disk c.runs_are_joined.ensures c.args.self.now c.loop-self.self c.log_on-ended.new.self c.log_on-ended.result c.loop-self.invariant.works
     c.log_on-ended.ensures.works
+
+pub returns-clause-quiet : goal.returns-clause-quiet
+returns-clause-quiet g c = search rules

@@ -1,0 +1,5 @@
+use Rattle.std.proofs.Common.{rules}
+use Rattle.rep_script.proofs.answers.write_state.Goals as goal
+
+pub returns-clause-told : goal.returns-clause-told
+returns-clause-told g c = search rules
