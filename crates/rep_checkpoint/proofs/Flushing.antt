@@ -26,7 +26,7 @@ use Rattle.rep_checkpoint.specs.Standing.{Standing, stage_in, IsNext, IsGoing}
 use Rattle.rep_checkpoint.specs.Moves.{flush_refusal, position_in, without, flushed_in, flushed}
 use Rattle.rep_checkpoint.specs.States.{CheckpointIs, IsBase, IsFlushing, IsToward, IsWritten}
 use Rattle.rep_checkpoint.specs.Calls.{FlushesAsSpelled, Flushes}
-use Rattle.rep_checkpoint.specs.Pages.{IsPageAt, PutsIn, MovesPage}
+use Rattle.rep_checkpoint.specs.Pages.{IsPageAt, MovesPage}
 use Rattle.rep_checkpoint.proofs.Pages.{not_left, was_left}
 use Rattle.rep_checkpoint.proofs.Frames.{page_number, slot_in, spare_apart, base_as, written_as, toward_as}
 use Rattle.rep_checkpoint.proofs.GoingOn.{here}

@@ -1,6 +1,5 @@
 -- What a feed still hands out, behind a line that was handed out and behind more that was read.
-use Rattle.std.proofs.Common.{◌≡◌, ℕ, ◌+◌, ◌<◌, ◌≤◌, List, ◌∷◌, [], ◌++◌, length, take, drop, Option, None, Some, refl, sym, ap, ◌∙◌, arith, append_assoc, slice_range, length-drop}
-use Rattle.std.proofs.lemmas.List.{length-take}
+use Rattle.std.proofs.Common.{◌≡◌, ℕ, ◌+◌, ◌<◌, List, ◌∷◌, [], ◌++◌, length, take, drop, Option, None, Some, refl, sym, ap, ◌∙◌, arith, append_assoc, slice_range}
 use Rattle.std.specs.Io.KnownBytes.{Keeps, Consumes}
 use Rattle.rep_lines.specs.Lines.{HasNoFeed, clipped_behind, clipped, kept_behind, kept}
 use Rattle.rep_lines.specs.Feeds.{ahead, ReadsMore}

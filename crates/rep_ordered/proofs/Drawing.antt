@@ -14,7 +14,7 @@ use Rattle.rep_ordered.specs.declared.view.Mind.{Mind}
 use Rattle.rep_ordered.specs.declared.view.View.{View}
 use Rattle.rep_ordered.specs.declared.rule.Opening.{Opening}
 use Rattle.rep_ordered.specs.Counts.{one, times}
-use Rattle.rep_ordered.specs.Views.{StartsWith, HasAll, allowance_of, drew, with_number, knowing, untold, Lives}
+use Rattle.rep_ordered.specs.Views.{StartsWith, allowance_of, drew, with_number, knowing, untold, Lives}
 use Rattle.rep_ordered.specs.Rule.{Figures, Spelled, Knows, Kept, first_of}
 use Rattle.rep_ordered.specs.Steps.{Learns, claimed, looked, fronted, raised, stopped}
 use Rattle.rep_ordered.proofs.Shapes.{Moment, Mine}

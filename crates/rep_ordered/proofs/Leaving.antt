@@ -16,7 +16,7 @@ use Rattle.rep_ordered.specs.declared.view.Mind.{Mind}
 use Rattle.rep_ordered.specs.declared.view.View.{View}
 use Rattle.rep_ordered.specs.declared.rule.Opening.{Opening}
 use Rattle.rep_ordered.specs.Counts.{total, times, busy, gave}
-use Rattle.rep_ordered.specs.Views.{abandoned_with, gone_at, Every, StartsWith, Names, held_at, reach, word_at, floor_at, except, grown, joining, names, backed_after, common_after, on, without, Lives, Holds}
+use Rattle.rep_ordered.specs.Views.{abandoned_with, gone_at, Every, StartsWith, Names, held_at, reach, word_at, floor_at, except, grown, names, backed_after, common_after, on, without, Lives, Holds}
 use Rattle.rep_ordered.specs.Rule.{Covers, Figures, Gone, HoldIsRight, Knows, Kept, first_of}
 use Rattle.rep_ordered.specs.Steps.{abandons, left}
 use Rattle.rep_ordered.proofs.Shapes.{Moment, Mine}

@@ -6,7 +6,7 @@ use Rattle.rep_ordered.specs.declared.view.Hold.{Hold}
 use Rattle.rep_ordered.specs.declared.view.Mind.{Mind}
 use Rattle.rep_ordered.specs.declared.view.View.{View}
 use Rattle.rep_ordered.specs.Counts.{one, times}
-use Rattle.rep_ordered.specs.Views.{Every, HasAll, Holds, StartsWith, Later, Sees, Lives, hold, reach, held_at, reached_at, backed_after, common_after, both, with_number, knowing, except}
+use Rattle.rep_ordered.specs.Views.{Every, Holds, StartsWith, Later, Sees, Lives, hold, reach, held_at, reached_at, backed_after, common_after, both, with_number, knowing, except}
 use Rattle.rep_ordered.specs.Steps.{Learns, Entered, Plain, Apart}
 use Rattle.atomic_table.specs.Table.{rest}
 use Rattle.rep_ordered.specs.Seats.{empty_slot, IsSeated, Place}

@@ -1,5 +1,5 @@
 -- Asks of the device as parts of a life: each is a snapshot that was given up before any of it came.
-use Rattle.std.proofs.Common.{◌≡◌, ◌≢◌, ◌⊎◌, inl, inr, ℕ, Bool, true, false, List, Option, None, Some, Result, Ok, Err, refl, sym, ap, subst, ◌∙◌, IfErr}
+use Rattle.std.proofs.Common.{◌≡◌, ◌≢◌, ◌⊎◌, inl, inr, ℕ, Bool, true, false, List, Option, None, Some, Result, Ok, Err, refl, sym, ap, subst, ◌∙◌}
 use Rattle.std.specs.Prelude.{◌||◌, is_some}
 use Rattle.rep_types.specs.declared.refusal.Refusal.{Refusal}
 use Rattle.rep_types.specs.declared.refusal.Refusal.TheVariants.{Stopped, DiskFault}
@@ -9,7 +9,6 @@ use Rattle.rep_disk.specs.declared.disk.Disk.{Ghosts}
 use Rattle.rep_disk.specs.History.{IsImage}
 use Rattle.rep_disk.specs.Leaving.{leaves_none}
 use Rattle.rep_log.specs.declared.phase.Phase.{Phase}
-use Rattle.rep_steps.specs.Standings.{Standing}
 use Rattle.rep_steps.specs.Nodes.{Node, IsNode}
 use Rattle.rep_steps.specs.Parts.{part_of}
 use Rattle.rep_steps.specs.Images.{IsFrontAt}

@@ -14,7 +14,7 @@ use Rattle.rep_steps.specs.Events.{delivery}
 use Rattle.rep_catchup.specs.Holding.{IsStep}
 use Rattle.rep_disk.specs.declared.disk.Disk.{Ghosts}
 use Rattle.rep_disk.specs.declared.memory.Loss.{Loss}
-use Rattle.rep_disk.specs.History.{History, stable}
+use Rattle.rep_disk.specs.History.{stable}
 use Rattle.rep_disk.specs.Memory.{Memory}
 use Rattle.rep_record.specs.Words.{is_blank, words}
 use Rattle.rep_record.specs.Lines.{Unread, ahead, NextLine}

@@ -47,7 +47,7 @@ impl Waiting {
     }
 
     /// Lets go of all answers that wait, and answers whether one of them had found no room.
-    fn let_go(&mut self) -> bool
+    fn clear(&mut self) -> bool
         ensures none { self.new ≡ record { bytes = []; failed = false } }
         ensures failed { result ≡ self.old.failed }
     {
@@ -99,7 +99,7 @@ pub fn send<W: Sink>(writer: &mut W, waiting: &mut Waiting) -> Result<(), Refusa
     ensures err { IfErr result (λ refusal. refusal ≡ Refusal.StreamFault) }
 {
     let outcome = writer.put(waiting.bytes.as_slice());
-    let failed = waiting.let_go();
+    let failed = waiting.clear();
     outcome?;
     if failed {
         return Err(writer.give_up());

@@ -9,7 +9,7 @@ use Rattle.rep_types.specs.Settings.{Setting}
 use Rattle.rep_types.specs.declared.item.Item.{Item}
 use Rattle.rep_types.specs.Items.{writes_of}
 use Rattle.rep_types.specs.Transactions.{Transaction, transaction}
-use Rattle.rep_types.specs.Order.{Order, item, read, overwritten, content_after}
+use Rattle.rep_types.specs.Order.{Order, read, overwritten, content_after}
 use Rattle.rep_types.specs.Verdicts.{StateIsEnough}
 use Rattle.rep_types.specs.ByItems.{ReachByItems}
 use Rattle.rep_session.specs.declared.finished.Finished.TheVariants.{ReadOnly, WriteSet}

@@ -1,4 +1,4 @@
-use Rattle.std.proofs.Common.{rules, ◌≡◌, ◌+◌, ◌++◌, length, ◌≤◌}
+use Rattle.std.proofs.Common.{rules}
 use Rattle.rep_cert.proofs.ring.keep.Goals as goal
 
 pub returns-then-is_commit : goal.returns-then-is_commit

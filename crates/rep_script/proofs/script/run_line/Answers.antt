@@ -1,8 +1,7 @@
-use Rattle.std.proofs.Common.{◌≡◌, ◌^◌, Ok, Err, Some, None, sym, ap, subst, ◌∙◌, rules}
+use Rattle.std.proofs.Common.{◌^◌, Ok, Err, None, sym, subst, ◌∙◌, rules}
 use Rattle.rep_record.specs.Reading.{next, number_in}
-use Rattle.rep_script.specs.Judging.{content}
-use Rattle.rep_script.specs.ScriptLines.{script_line, delivery_of}
-use Rattle.rep_script.specs.Scripts.{RunsLine, RunsDiskLine}
+use Rattle.rep_script.specs.ScriptLines.{delivery_of}
+use Rattle.rep_script.specs.Scripts.{RunsLine}
 use Rattle.rep_script.proofs.Scripting.{runs_on, fails_on, said_delivery}
 use Rattle.rep_script.proofs.script.run_line.Goals as goal
 

@@ -1,4 +1,3 @@
-use Rattle.std.proofs.Common.{◌≡◌}
 use Rattle.std.proofs.lemmas.Result.{err_from_is_err_and}
 use Rattle.rep_script.specs.Scripts.{Crashes}
 use Rattle.rep_script.proofs.Noting.{text_long, no_params, nothing_behind, rest_behind}

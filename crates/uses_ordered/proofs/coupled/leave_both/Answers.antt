@@ -1,8 +1,7 @@
-use Rattle.std.proofs.Common.{rules, ◌≡◌, ℕ, ◌+◌, ◌*◌, ◌-◌, List, [], ◌∷◌, arith, sym, refl, ap, ◌∙◌, subst}
-use Rattle.rep_ordered.specs.declared.view.Hold.{Hold}
+use Rattle.std.proofs.Common.{rules, ◌≡◌, ℕ, ◌+◌, ◌*◌, ◌-◌, List, [], ◌∷◌, arith, sym, ap, ◌∙◌, subst}
 use Rattle.rep_ordered.specs.declared.view.View.{View}
 use Rattle.rep_ordered.specs.Views.{except, floor_at, held_at, hold, turn_of, word_at}
-use Rattle.uses_ordered.specs.Passing.{HavePassed, Inside, numbers}
+use Rattle.uses_ordered.specs.Passing.{HavePassed}
 use Rattle.uses_ordered.specs.Growing.{passed_grows}
 use Rattle.uses_ordered.proofs.Passes.{begins_joined}
 use Rattle.uses_ordered.proofs.coupled.leave_both.Goals as goal

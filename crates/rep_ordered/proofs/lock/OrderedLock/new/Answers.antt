@@ -1,5 +1,4 @@
 use Rattle.std.proofs.Common.{ℕ, List, sym, subst}
-use Rattle.rep_ordered.specs.declared.rule.Opening.{Opening}
 use Rattle.rep_ordered.specs.Ends.{AllMeet}
 use Rattle.rep_ordered.proofs.lock.OrderedLock.new.Goals as goal
 

@@ -1,4 +1,4 @@
-use Rattle.std.proofs.Common.{rules, ℕ, ◌*◌, ◌∷◌, length, replicate, arith, sym, refl, ap, ◌∙◌, subst, Option, List, []}
+use Rattle.std.proofs.Common.{ℕ, length, arith, sym, refl, ◌∙◌, subst, Option, List, []}
 use Rattle.std.specs.Prelude.{IsSome}
 use Rattle.atomic_table.specs.Table.{opening}
 use Rattle.rep_ordered.specs.declared.rule.Opening.{Opening}

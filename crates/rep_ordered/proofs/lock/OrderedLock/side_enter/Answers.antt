@@ -1,4 +1,4 @@
-use Rattle.std.proofs.Common.{rules, ◌≡◌, refl, subst, ap, ℕ}
+use Rattle.std.proofs.Common.{rules, ◌≡◌, refl, subst, ap}
 use Rattle.rep_ordered.specs.Views.{Later}
 use Rattle.rep_ordered.specs.Steps.{Entered}
 use Rattle.rep_ordered.proofs.Places.{later_same, later_still, later_entered}
