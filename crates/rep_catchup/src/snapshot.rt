@@ -4,7 +4,6 @@ ghost use Rattle.std.specs.Prelude.{◌≡◌, ◌↔◌, ◌⊎◌, ℕ, ◌+�
 ghost use Rattle.rep_types.specs.declared.refusal.Refusal.TheVariants.{OutOfMemory, DiskFault, Malformed, StreamFault};
 ghost use Rattle.rep_types.specs.Order.{State};
 ghost use Rattle.rep_types.specs.Settings.{Setting};
-ghost use Rattle.rep_forms.specs.Forms.{IsPart};
 ghost use Rattle.rep_layout.specs.declared.format.Format.TheVariants.{Two};
 ghost use Rattle.rep_layout.specs.declared.page_state.PageState.TheVariants.{Nowhere};
 ghost use Rattle.rep_layout.specs.Supers.{IsNil};
@@ -13,7 +12,6 @@ ghost use Rattle.rep_pages.specs.Slots.{state_of_page};
 ghost use Rattle.rep_steps.specs.Nodes.{Node};
 ghost use Rattle.rep_replica.specs.Replicas.{facts_of};
 ghost use Rattle.rep_replica.specs.Refusing.{TellsFaults};
-ghost use Rattle.rep_replica.specs.Holding.{Holds};
 ghost use Rattle.rep_replica.specs.Settling.{is_quiet, IsRunning};
 ghost use Rattle.rep_replica.specs.Installing.{HoldsBoth, given_up};
 ghost use Rattle.rep_streams.specs.Streams.{Notes};

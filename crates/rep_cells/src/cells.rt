@@ -1,5 +1,5 @@
 //! The device, its places, and the calls.
-ghost use Rattle.std.specs.Prelude.{◌≡◌, ◌↔◌, ◌<◌, ◌≤◌, ℕ, Some, length, IsErr, IfOk, IfErr, IfSome, OnOk, OnErr, option_map};
+ghost use Rattle.std.specs.Prelude.{◌≡◌, ◌↔◌, ◌<◌, ◌≤◌, Some, length, IsErr, IfOk, IfErr, IfSome, OnOk, OnErr, option_map};
 ghost use Rattle.rep_disk.specs.History.{Synced, seen};
 ghost use Rattle.rep_disk.specs.Devices.{Calls, SameHistory};
 ghost use Rattle.rep_layout.specs.Places.{body_len, offset_of, gate_of, need_of};

@@ -1,6 +1,6 @@
 //! How a checkpoint goes on: the writes behind the pages, and syncs.
 
-ghost use Rattle.std.specs.Prelude.{◌≡◌, None, IfErr, IfSome, OnErr, false, length};
+ghost use Rattle.std.specs.Prelude.{◌≡◌, None, IfSome, OnErr, false, length};
 ghost use Rattle.rep_disk.specs.Devices.{Calls};
 ghost use Rattle.rep_layout.specs.Places.{offset_of, layout_of as places_of};
 ghost use Rattle.rep_layout.specs.Supers.{IsSuper, super_bytes};

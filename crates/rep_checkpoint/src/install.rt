@@ -1,7 +1,6 @@
 //! How a snapshot that comes from another node is installed: it is made the next base beside the one that stands.
 
 ghost use Rattle.std.specs.Prelude.{◌≡◌, ◌↔◌, ◌≤◌, ◌<◌, true, length, replicate, IfErr};
-ghost use Rattle.rep_types.specs.declared.key.Key.{Key};
 ghost use Rattle.rep_disk.specs.Devices.{Calls};
 ghost use Rattle.rep_layout.specs.declared.page_state.PageState.TheVariants.{Nowhere};
 ghost use Rattle.rep_layout.specs.Places.{layout_of as places_of};

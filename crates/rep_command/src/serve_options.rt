@@ -20,7 +20,7 @@ impl Model for Workers {
 }
 
 impl Workers {
-    ghost use Rattle.std.specs.Prelude.{◌≡◌, ◌<◌, ◌≤◌};
+    ghost use Rattle.std.specs.Prelude.{◌<◌, ◌≤◌};
 
     /// What stands for their number in a usage.
     pub(crate) const VALUE_NAME: &'static str = "N";

@@ -1,5 +1,5 @@
 //! A disk in memory, which may crash.
-ghost use Rattle.std.specs.Prelude.{◌≡◌, ◌+◌, ◌-◌, ◌≤◌, ◌<◌, ◌^◌, ◌++◌, ◌∷◌, [], ℕ, length, replicate, IfOk, OnOk, OnErr, IsOk, refl};
+ghost use Rattle.std.specs.Prelude.{◌≡◌, ◌+◌, ◌-◌, ◌≤◌, ◌<◌, ◌++◌, ◌∷◌, [], length, replicate, IfOk, OnOk, OnErr, IsOk, refl};
 ghost use Rattle.rep_disk.specs.Bytes.{part, put};
 ghost use Rattle.rep_disk.specs.History.{History, Begins, Wrote, Synced, IsImage, Reads, seen, stable};
 ghost use Rattle.rep_disk.specs.Calls.{IsCall, MaySpoil};

@@ -1,17 +1,17 @@
 //! How items come from the backlog.
 
-ghost use Rattle.std.specs.Prelude.{◌≡◌, ℕ, None, Some, slice_get, ◌∷◌, ◌⊎◌, ◌+◌, ◌-◌, ◌≤◌, ◌<◌, ◌==◌, ◌++◌, [], length, take, drop, map, is_some, true, Ok, Err, IfOk, IfErr, OnOk, OnErr, MatchOption};
+ghost use Rattle.std.specs.Prelude.{◌≡◌, ℕ, None, Some, slice_get, ◌∷◌, ◌⊎◌, ◌+◌, ◌-◌, ◌≤◌, ◌<◌, ◌==◌, ◌++◌, [], length, take, drop, map, is_some, true, Ok, Err, IfOk, IfErr, OnOk, OnErr};
 ghost use Rattle.rep_types.specs.declared.refusal.Refusal.TheVariants.{OutOfMemory};
 ghost use Rattle.rep_types.specs.Replies.{reply_of};
 ghost use Rattle.rep_types.specs.Order.{counts};
-ghost use Rattle.rep_types.specs.declared.refusal.Refusal.TheVariants.{NotDue, LogFull, Stopped as is_stopped};
+ghost use Rattle.rep_types.specs.declared.refusal.Refusal.TheVariants.{NotDue, Stopped as is_stopped};
 ghost use Rattle.rep_record.specs.Blocks.{SeqnosFrom};
 ghost use Rattle.rep_steps.specs.declared.event.Event.TheVariants.{Log as to_log};
-ghost use Rattle.rep_steps.specs.Standings.{delivered, block_refusal, refusal};
+ghost use Rattle.rep_steps.specs.Standings.{block_refusal, refusal};
 ghost use Rattle.rep_record.specs.Fronts.{fitting};
 ghost use Rattle.rep_steps.specs.Nodes.{Node, reached};
 ghost use Rattle.rep_steps.specs.Images.{AreJudgedFrom};
-ghost use Rattle.rep_engine.specs.Engines.{AreWithin, facts_of, phase_at};
+ghost use Rattle.rep_engine.specs.Engines.{AreWithin, facts_of};
 ghost use Rattle.rep_engine.specs.Accepting.{ComeNext, AddsWhere, AddsItems, accepted_in, is_gathering};
 ghost use Rattle.rep_engine.specs.Holding.{Holds, with_items};
 

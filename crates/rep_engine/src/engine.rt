@@ -1,6 +1,6 @@
 //! What an engine holds, and the steps that write.
 
-ghost use Rattle.std.specs.Prelude.{◌≡◌, ◌≢◌, ◌⊎◌, ◌+◌, ◌-◌, ◌<◌, ◌≤◌, ◌==◌, [], nat_le, if◌then◌else◌, true, false, length, map, is_some, Some, None, Err, IsErr, IfSome, IfErr, OnOk, OnErr, MatchOption};
+ghost use Rattle.std.specs.Prelude.{◌≡◌, ◌≢◌, ◌⊎◌, ◌+◌, ◌-◌, ◌<◌, ◌≤◌, ◌==◌, [], nat_le, if◌then◌else◌, true, length, map, is_some, Some, None, Err, IfErr, OnOk, OnErr};
 ghost use Rattle.rep_types.specs.declared.refusal.Refusal.TheVariants.{OutOfMemory, DiskFault, LogFull, Stopped};
 ghost use Rattle.rep_types.specs.Replies.{reply_of};
 ghost use Rattle.rep_disk.specs.History.{Synced};
@@ -8,12 +8,12 @@ ghost use Rattle.rep_disk.specs.Moments.{LeavesOnly};
 ghost use Rattle.rep_disk.specs.Devices.{Calls};
 ghost use Rattle.rep_cells.specs.Device.{disk_of, layout_of};
 ghost use Rattle.rep_steps.specs.declared.event.Event.TheVariants.{Log as to_log, Sync as to_sync};
-ghost use Rattle.rep_steps.specs.Standings.{delivered, gathered, block_refusal, log_refusal};
+ghost use Rattle.rep_steps.specs.Standings.{delivered, block_refusal, log_refusal};
 ghost use Rattle.rep_steps.specs.Moves.{Moves};
 ghost use Rattle.rep_steps.specs.Nodes.{Node, Steps};
 ghost use Rattle.rep_steps.specs.Images.{IsFrontAt};
 ghost use Rattle.rep_checkpoint.specs.Meanings.{Means};
-ghost use Rattle.rep_engine.specs.Engines.{IsEngine, AreReadable, facts_of, phase_at, durable_of, gtid_of, Halts};
+ghost use Rattle.rep_engine.specs.Engines.{IsEngine, AreReadable, facts_of, durable_of, gtid_of, Halts};
 ghost use Rattle.rep_log.specs.Standing.{due_of};
 ghost use Rattle.rep_log.specs.Moves.{after_sync, started, fault_of, SyncsLog, StartsLater};
 ghost use Rattle.rep_checkpoint.specs.Moves.{after_sync as checkpoint_after, is_opening};

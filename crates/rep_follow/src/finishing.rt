@@ -1,6 +1,6 @@
 //! How a node that follows an order ends.
 
-ghost use Rattle.std.specs.Prelude.{◌≡◌, ◌⊎◌, ◌||◌, [], true, false, is_some, Err, IfErr, OnOk};
+ghost use Rattle.std.specs.Prelude.{◌≡◌, ◌⊎◌, ◌||◌, true, false, is_some, Err, IfErr, OnOk};
 ghost use Rattle.rep_streams.specs.Streams.{Notes};
 ghost use Rattle.rep_replica.specs.Replicas.{facts_of};
 ghost use Rattle.rep_replica.specs.Settling.{is_quiet, Works};

@@ -1,6 +1,6 @@
 //! What a form is, to code that is generic in it.
 
-ghost use Rattle.std.specs.Prelude.{◌≡◌, ◌+◌, ◌≤◌, ℕ, List, length, Option, Some, None, MatchBool, option_map};
+ghost use Rattle.std.specs.Prelude.{◌≡◌, ◌+◌, ◌≤◌, ℕ, length, Option, Some, None, MatchBool, option_map};
 ghost use Rattle.rep_forms.specs.Forms.{Form as form_of, IsForm, TakesFront, StripsFront, Puts};
 
 use arrayvec::ArrayVec;

@@ -1,6 +1,6 @@
 //! The superblock: what a disk is, and where its state stands.
 
-ghost use Rattle.std.specs.Prelude.{◌≡◌, ◌+◌, ◌-◌, ◌*◌, ◌≤◌, ◌++◌, ◌↔◌, length, true, IfOk, IfErr, IsTrue, IsSome, IfSome, Ok, option_map};
+ghost use Rattle.std.specs.Prelude.{◌≡◌, ◌+◌, ◌-◌, ◌*◌, ◌≤◌, ◌++◌, ◌↔◌, length, IfOk, IfErr, IsTrue, IsSome, IfSome, Ok, option_map};
 ghost use Rattle.std.specs.List.{flat_map};
 ghost use Rattle.rep_types.specs.declared.refusal.Part.TheVariants.{Superblock};
 ghost use Rattle.rep_types.specs.Settings.{is_setting};

@@ -1,6 +1,6 @@
 //! The window that a disk keeps beside a superblock, out of its bytes.
 
-ghost use Rattle.std.specs.Prelude.{◌≡◌, ◌+◌, ◌-◌, ◌<◌, ◌≤◌, ◌^◌, ◌==◌, ◌++◌, ◌↔◌, [], List, max, length, true, is_none, IsTrue, IfSome, IfOk, IfErr, Some, Ok, MatchOption, option_map};
+ghost use Rattle.std.specs.Prelude.{◌≡◌, ◌+◌, ◌-◌, ◌<◌, ◌≤◌, ◌^◌, ◌==◌, ◌++◌, ◌↔◌, [], List, max, length, true, is_none, IsTrue, IfSome, IfOk, IfErr, Some, Ok, MatchOption};
 ghost use Rattle.std.specs.List.{list_all};
 ghost use Rattle.rep_types.specs.Entries.{Entry};
 ghost use Rattle.rep_types.specs.Windows.{Window as Kept, is_window_size};

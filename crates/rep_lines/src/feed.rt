@@ -1,6 +1,6 @@
 //! A text without end, as whole lines.
 
-ghost use Rattle.std.specs.Prelude.{◌≡◌, ◌≤◌, ◌<◌, ◌+◌, ◌++◌, ◌∷◌, [], Bool, true, false, length, take, drop, Ok, None, Some, IfSome, IfNone, IfOk, IfErr, OnOk, OnErr, Option, List, ℕ, slice_range};
+ghost use Rattle.std.specs.Prelude.{◌≡◌, ◌≤◌, ◌<◌, ◌+◌, ◌++◌, ◌∷◌, [], true, false, length, take, drop, Ok, Some, IfOk, IfErr, OnErr, Option, List, ℕ, slice_range};
 ghost use Rattle.std.specs.List.{list_any, position};
 ghost use Rattle.std.specs.Io.KnownBytes.{Keeps, Consumes, IsAtEnd};
 ghost use Rattle.rep_streams.specs.Streams.{Notes};

@@ -1,18 +1,16 @@
 //! Where the log stands, and the steps of its next block.
 
 ghost use Rattle.std.specs.Prelude.{◌≡◌, ◌==◌, ◌+◌, ◌-◌, ◌<◌, ◌≤◌, ◌%◌, ◌⊎◌, [], None, Some, Err, length, IfOk, IfErr, IfSome, if◌then◌else◌};
-ghost use Rattle.rep_types.specs.declared.judged.Judged.{Judged};
 ghost use Rattle.rep_disk.specs.History.{seen, failed};
 ghost use Rattle.rep_disk.specs.Devices.{Calls, SameHistory};
-ghost use Rattle.rep_record.specs.Blocks.{IsBlock, RefusesRecords, block_bytes};
+ghost use Rattle.rep_record.specs.Blocks.{RefusesRecords, block_bytes};
 ghost use Rattle.rep_record.specs.Replaying.{Rejected};
 ghost use Rattle.rep_layout.specs.Places.{offset_of, gate_of, log_of};
 ghost use Rattle.rep_cells.specs.Device.{disk_of, layout_of};
-ghost use Rattle.rep_cells.specs.Readings.{IsCell, reading_of};
-ghost use Rattle.rep_cells.specs.Calls.{gate, WritesOnly};
-ghost use Rattle.rep_log.specs.Tail.{IsBlockFrom, IsOfForm};
+ghost use Rattle.rep_cells.specs.Readings.{reading_of};
+ghost use Rattle.rep_cells.specs.Calls.{gate};
 ghost use Rattle.rep_log.specs.Standing.{index_of, due_of};
-ghost use Rattle.rep_log.specs.Moves.{unless_due, step_refusal, seal_refusal, fault_of, recycled, sealed_as, gated, after_sync, durable_by, started, restarted, IsRefused, IsStep, SyncsLog, StartsLater, Restarts};
+ghost use Rattle.rep_log.specs.Moves.{step_refusal, seal_refusal, fault_of, recycled, sealed_as, gated, after_sync, durable_by, started, restarted, IsRefused, IsStep, SyncsLog, StartsLater, Restarts};
 ghost use Rattle.rep_log.specs.Scanning.{HasCells, Scans, StopsIn, rests_as};
 
 use crate::phase::{Phase, Step};

@@ -1,6 +1,6 @@
 //! Reads beside a node that runs.
 
-ghost use Rattle.std.specs.Prelude.{◌≡◌, ◌≢◌, ◌⊎◌, ◌↔◌, ℕ, ◌∷◌, [], List, true, false, None, Err, IsSome, IfOk, IfErr};
+ghost use Rattle.std.specs.Prelude.{◌≡◌, ◌≢◌, ◌⊎◌, ◌↔◌, ◌∷◌, [], List, true, false, None, Err, IsSome, IfOk, IfErr};
 ghost use mathlib.Core.List.{IsPrefix};
 ghost use Rattle.rep_types.specs.declared.judged.Judged.{Judged as Entry};
 ghost use Rattle.rep_types.specs.declared.refusal.Refusal.TheVariants.{BadKey, DiskFault, Stopped as is_stopped};

@@ -1,6 +1,6 @@
 //! The numbers: how they are drawn, and how seats share the right to draw them.
 
-ghost use Rattle.std.specs.Prelude.{◌≡◌, ℕ, ◌+◌, ◌<◌, ◌≤◌, [], length, max};
+ghost use Rattle.std.specs.Prelude.{◌≡◌, ◌+◌, ◌<◌, ◌≤◌, [], length, max};
 ghost use Rattle.rep_ordered.specs.Counts.{times};
 ghost use Rattle.rep_ordered.specs.Views.{with_number, giving, given, both};
 ghost use Rattle.rep_ordered.specs.Steps.{Learns};

@@ -1,7 +1,5 @@
 //! The seats of a lock.
 
-ghost use Rattle.std.specs.Prelude.{◌≡◌};
-
 use crate::view::Mind;
 use std::marker::Model;
 

@@ -1,6 +1,6 @@
 //! The turns: how a station is entered and left.
 
-ghost use Rattle.std.specs.Prelude.{◌≡◌, ◌≢◌, ℕ, ◌+◌, ◌/◌, ◌<◌, ◌≤◌, IfOk, IfErr, IsErr, IfSome, IfNone, IsSome, IsNone, Option, Some, None, [], ◌∷◌, length, map, min};
+ghost use Rattle.std.specs.Prelude.{◌≡◌, ◌≢◌, ℕ, ◌+◌, ◌<◌, ◌≤◌, IfOk, IfErr, IsErr, IfSome, IfNone, IsSome, IsNone, Option, Some, None, [], ◌∷◌, length, map, min};
 ghost use Rattle.rep_ordered.specs.Counts.{times};
 ghost use Rattle.rep_ordered.specs.Views.{HoldsTurn, HoldsSide, Holds, Later, Names, Sees, abandoned, except, floor_of, grown, names, turn_of, without};
 ghost use Rattle.rep_ordered.specs.Steps.{Entered};

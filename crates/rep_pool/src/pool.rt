@@ -16,7 +16,6 @@ ghost use Rattle.rep_cells.specs.Device.{disk_of, layout_of};
 ghost use Rattle.rep_cells.specs.Faults.{fault_of};
 ghost use Rattle.rep_pages.specs.declared.page.Page.{Page as PageBody};
 ghost use Rattle.rep_pages.specs.Slots.{state_of_page};
-ghost use Rattle.rep_pages.specs.Rows.{row_at};
 ghost use Rattle.rep_pages.specs.Spelled.{SpellRows};
 ghost use Rattle.rep_pool.specs.Pools.{found, used, without_page, AreNumbered, IsKept, IsFree};
 ghost use Rattle.rep_pool.specs.BasePages.{ReadsPage, page_read, kept_in, GivesPage, GivesRow, GoesOn, IsKeptAnew, IsRowUpTo};

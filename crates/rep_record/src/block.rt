@@ -1,6 +1,6 @@
 //! Blocks of records while they are gathered.
 
-ghost use Rattle.std.specs.Prelude.{◌≡◌, ◌≤◌, ◌==◌, ◌<◌, ◌^◌, ◌++◌, ◌∷◌, ◌↔◌, [], length, if◌then◌else◌, IsSome, IfSome};
+ghost use Rattle.std.specs.Prelude.{◌≡◌, ◌≤◌, ◌==◌, ◌<◌, ◌++◌, ◌∷◌, ◌↔◌, [], length, if◌then◌else◌, IsSome, IfSome};
 ghost use Rattle.rep_record.specs.Blocks.{has_room, first_seqno, run_bytes, IsBlock, block_bytes, filled_by};
 
 use crate::block_reader::Head;

@@ -1,6 +1,6 @@
 //! Blocks of records out of bytes.
 
-ghost use Rattle.std.specs.Prelude.{◌≡◌, ◌+◌, ◌≤◌, ◌==◌, ℕ, List, [], ◌∷◌, length, Ok, IfOk, IfErr, IsOkAnd, MatchOption, option_map};
+ghost use Rattle.std.specs.Prelude.{◌≡◌, ◌+◌, ◌==◌, ℕ, List, [], ◌∷◌, length, Ok, IfOk, IfErr, IsOkAnd, MatchOption};
 ghost use Rattle.rep_types.specs.declared.judged.Judged.{Judged};
 ghost use Rattle.rep_record.specs.Blocks.{contents, block_bytes, IsBlock, IsRead, Refuses, BlocksAreTold, next_seqno, head_form};
 

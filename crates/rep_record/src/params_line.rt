@@ -1,10 +1,10 @@
 //! The line of a node's parameters.
 
-ghost use Rattle.std.specs.Prelude.{◌≡◌, ◌≢◌, ◌^◌, List, IfOk, IfErr, Err, take};
+ghost use Rattle.std.specs.Prelude.{◌≡◌, ◌≢◌, ◌^◌, IfOk, IfErr, Err, take};
 ghost use Rattle.std.specs.Option.{option_map};
 ghost use Rattle.rep_types.specs.Settings.{Setting, allowed};
 ghost use Rattle.rep_record.specs.Grammar.{IsParamsLine};
-ghost use Rattle.rep_record.specs.Reading.{number_in, next, some_each, outcome, params_form, params_line};
+ghost use Rattle.rep_record.specs.Reading.{number_in, some_each, outcome, params_form, params_line};
 ghost use Rattle.rep_record.specs.Drafts.{drafted_setting};
 
 use crate::few::keep;

@@ -9,7 +9,7 @@ ghost use Rattle.rep_types.specs.Items.{seen_by, source_of, trx_of};
 ghost use Rattle.rep_forms.specs.Forms.{number, number_bytes};
 ghost use Rattle.rep_forms.specs.Keys.{KeyFits};
 ghost use Rattle.rep_forms.specs.Writes.{WriteFits};
-ghost use Rattle.rep_record.specs.Records.{HasSpelling, IsRecord, spelled, IsFront, RecordsAreTold, is_verdict_at, suits, is_placed, conflict_seqno, verdict_bytes, labels_in, label_bytes, list_bytes, content_bytes, record_bytes, label_fields, verdict_of, verdict_fields, size_width, list_fields, item_of, record_form};
+ghost use Rattle.rep_record.specs.Records.{HasSpelling, IsRecord, spelled, IsFront, RecordsAreTold, is_verdict_at, suits, is_placed, verdict_bytes, labels_in, label_bytes, list_bytes, content_bytes, record_bytes, label_fields, verdict_of, verdict_fields, size_width, list_fields, item_of, record_form};
 
 use crate::limits::MAX_RECORD;
 use crate::room::item_len;

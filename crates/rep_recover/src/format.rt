@@ -1,7 +1,6 @@
 //! A new node's device.
 
 ghost use Rattle.std.specs.Prelude.{◌≡◌, ◌<◌, ◌≤◌, [], Err, IfErr, OnOk, replicate, length, ℕ, List};
-ghost use Rattle.rep_types.specs.Settings.{pages_of};
 ghost use Rattle.rep_forms.specs.Forms.{IsPart};
 ghost use Rattle.rep_disk.specs.Devices.{Calls};
 ghost use Rattle.rep_layout.specs.Places.{layout_of as layout_with, need_of};

@@ -1,6 +1,6 @@
 //! The items of a log, judged again.
 
-ghost use Rattle.std.specs.Prelude.{◌≡◌, ◌≤◌, [], IfOk, IfErr, OnOk};
+ghost use Rattle.std.specs.Prelude.{◌≡◌, [], IfOk, IfErr};
 ghost use Rattle.rep_types.specs.declared.refusal.Refusal.TheVariants.{OutOfMemory};
 ghost use Rattle.rep_layout.specs.Windows.{IsWindowAt};
 ghost use Rattle.rep_engine.specs.Checking.{HoldsWindows};

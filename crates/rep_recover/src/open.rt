@@ -2,7 +2,6 @@
 
 ghost use Rattle.std.specs.Prelude.{◌≡◌, ◌≤◌, ◌<◌, List, [], Ok, Err, OnOk, IfOk, IfErr, MatchResult};
 ghost use Rattle.rep_types.specs.declared.judged.Judged.{Judged};
-ghost use Rattle.rep_types.specs.declared.refusal.Part.{Part as PartOf};
 ghost use Rattle.rep_disk.specs.History.{Synced, seen, failed};
 ghost use Rattle.rep_disk.specs.Devices.{Calls};
 ghost use Rattle.rep_layout.specs.Places.{side_of, layout_of as layout_with, need_of};

@@ -1,10 +1,10 @@
 //! The superblocks that stand on a device, and which of them counts.
 
-ghost use Rattle.std.specs.Prelude.{◌≡◌, ◌≤◌, [], IfOk, IfErr, IfSome, option_map};
+ghost use Rattle.std.specs.Prelude.{◌≡◌, [], IfOk, IfErr, IfSome, option_map};
 ghost use Rattle.rep_types.specs.declared.refusal.Part.TheVariants.{Superblock};
 ghost use Rattle.rep_disk.specs.History.{seen, failed};
-ghost use Rattle.rep_layout.specs.Places.{side_of, layout_of as layout_with, need_of};
-ghost use Rattle.rep_layout.specs.Supers.{IsSuper, super_bytes};
+ghost use Rattle.rep_layout.specs.Places.{side_of};
+ghost use Rattle.rep_layout.specs.Supers.{super_bytes};
 ghost use Rattle.rep_cells.specs.Device.{disk_of, layout_of};
 ghost use Rattle.rep_cells.specs.Readings.{reading_of};
 ghost use Rattle.rep_engine.specs.Bases.{IsSuperAt};

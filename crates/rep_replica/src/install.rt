@@ -1,6 +1,6 @@
 //! How a snapshot that comes from another node is installed in a replica.
 
-ghost use Rattle.std.specs.Prelude.{◌≡◌, ◌↔◌, ◌⊎◌, ◌||◌, true, false, [], None, Some, Ok, Err, is_some, IfOk, IfErr, IfSome, OnOk, OnErr};
+ghost use Rattle.std.specs.Prelude.{◌≡◌, ◌↔◌, ◌⊎◌, ◌||◌, true, false, [], None, Ok, Err, is_some, IfOk, IfErr, IfSome, OnOk, OnErr};
 ghost use Rattle.rep_types.specs.declared.refusal.Refusal.TheVariants.{Stopped, OutOfMemory, DiskFault};
 ghost use Rattle.rep_types.specs.Order.{State};
 ghost use Rattle.rep_disk.specs.Moments.{LeavesOnly};

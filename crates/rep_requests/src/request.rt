@@ -1,6 +1,6 @@
 //! What a line asks of a node that follows an order.
 
-ghost use Rattle.std.specs.Prelude.{◌≡◌, ◌≢◌, ◌^◌, ℕ, nat_le, nat_lt, true, false, if◌then◌else◌, length, take, codes};
+ghost use Rattle.std.specs.Prelude.{◌≡◌, ◌≢◌, ℕ, nat_lt, true, false, if◌then◌else◌, length};
 ghost use Rattle.std.specs.Option.{option_map};
 ghost use Rattle.rep_record.specs.Words.{words};
 ghost use Rattle.rep_record.specs.Reading.{each, some_each, key_in, order_line};

@@ -1,8 +1,8 @@
 //! A line of a saved state.
 
-ghost use Rattle.std.specs.Prelude.{◌≡◌, ◌==◌, ◌||◌, take, drop};
+ghost use Rattle.std.specs.Prelude.{◌≡◌, ◌==◌, ◌||◌};
 ghost use Rattle.rep_saved.specs.Saved.{IsWithin};
-ghost use Rattle.rep_saved.specs.Lines.{is_blank, from_first, up_to_last, trimmed, without_return, said_by, said};
+ghost use Rattle.rep_saved.specs.Lines.{is_blank, from_first, up_to_last, without_return, said_by, said};
 
 use rep_record::cut_at;
 use rep_types::{read_seqno, read_uuid};

@@ -3,7 +3,7 @@
 ghost use Rattle.std.specs.Prelude.{◌≡◌, ℕ, ◌⊎◌, false, Some, [], ◌++◌, take, IfSome, IfOk, IfErr, OnOk, OnErr, MatchResult};
 ghost use Rattle.std.specs.Io.KnownBytes.{Appends};
 ghost use Rattle.rep_streams.specs.Streams.{Notes};
-ghost use Rattle.rep_record.specs.Lines.{Unread, NextLine, Counts, IsTooLong};
+ghost use Rattle.rep_record.specs.Lines.{NextLine, Counts, IsTooLong};
 ghost use Rattle.rep_script.specs.Answering.{Answered, NotesBoth};
 
 use arrayvec::ArrayVec;

@@ -1,9 +1,8 @@
 //! Judging an order text.
 
-ghost use Rattle.std.specs.Prelude.{◌≡◌, ◌⊎◌, ◌<◌, ◌≤◌, ◌++◌, true, [], IfSome, IfOk, IfErr, OnOk};
-ghost use Rattle.std.specs.Io.KnownBytes.{Appends};
+ghost use Rattle.std.specs.Prelude.{◌≡◌, ◌⊎◌, ◌<◌, ◌≤◌, true, [], IfSome, IfOk, IfErr, OnOk};
 ghost use Rattle.rep_streams.specs.Streams.{Notes};
-ghost use Rattle.rep_record.specs.Lines.{Unread, ahead, IsTooLong, IsLongText, NotesText};
+ghost use Rattle.rep_record.specs.Lines.{ahead, IsTooLong, IsLongText, NotesText};
 ghost use Rattle.rep_record.specs.Reading.{order_line};
 ghost use Rattle.rep_types.specs.Order.{Order};
 ghost use Rattle.rep_cert.specs.Following.{Follows};

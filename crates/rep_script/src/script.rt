@@ -3,7 +3,7 @@
 ghost use Rattle.std.specs.Prelude.{◌≡◌, ◌≢◌, ◌⊎◌, ◌^◌, true, Some, Ok, IfSome, IfErr};
 ghost use Rattle.rep_types.specs.Settings.{Setting};
 ghost use Rattle.rep_streams.specs.Streams.{Notes};
-ghost use Rattle.rep_record.specs.Lines.{Unread, ahead, IsTooLong, IsLongText};
+ghost use Rattle.rep_record.specs.Lines.{ahead, IsTooLong, IsLongText};
 ghost use Rattle.rep_script.specs.Answering.{NotesBoth};
 ghost use Rattle.rep_script.specs.ScriptLines.{script_line, delivery_of, whole_in};
 ghost use Rattle.rep_record.specs.Reading.{next, number_in, outcome};

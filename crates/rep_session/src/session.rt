@@ -2,7 +2,7 @@
 
 ghost use Rattle.std.specs.Prelude.{◌≡◌, true, if◌then◌else◌, Ok, Err, Some, None, not};
 ghost use Rattle.rep_types.specs.Settings.{has_row};
-ghost use Rattle.rep_session.specs.Sessions.{begun, known, Gets, Writes, finished, is_read_too_many, is_write_too_many, put, delete, with_read, with_write};
+ghost use Rattle.rep_session.specs.Sessions.{begun, known, Gets, Writes, finished, put, delete};
 
 use crate::finished::Finished;
 use crate::places::{find_write, is_among, is_written, place_key, place_write};

@@ -1,6 +1,6 @@
 //! What moves by events, whatever its body is, and what runs of it come to.
 
-ghost use Rattle.std.specs.Prelude.{◌≡◌, ℕ, List, length, IfOk, IfErr, OnErr};
+ghost use Rattle.std.specs.Prelude.{◌≡◌, ℕ, List, IfOk, IfErr, OnErr};
 ghost use Rattle.rep_disk.specs.History.{History};
 ghost use Rattle.rep_disk.specs.Moments.{LeavesOnly};
 ghost use Rattle.rep_steps.specs.Images.{Meaning, IsFrontAt, RunsOn};

@@ -1,6 +1,6 @@
 //! What is digested of a replica, row by row.
 
-ghost use Rattle.std.specs.Prelude.{◌≡◌, ◌≤◌, ◌<◌, ◌+◌, ◌*◌, ◌^◌, ℕ, List, ◌++◌, Bool, is_some, if◌then◌else◌, OnOk};
+ghost use Rattle.std.specs.Prelude.{◌≡◌, ◌≤◌, ◌<◌, ◌+◌, ◌*◌, ◌^◌, ℕ, List, ◌++◌, is_some, if◌then◌else◌, OnOk};
 ghost use Rattle.std.specs.Int.{bytes_high_first};
 ghost use Rattle.sha2.specs.Hashers.{Holds256};
 ghost use Rattle.rep_types.specs.Sums.{keys_from, keys_of, row_sum_bytes};

@@ -1,6 +1,6 @@
 //! The pieces that a transfer is read in.
 
-ghost use Rattle.std.specs.Prelude.{◌≡◌, ◌+◌, ◌-◌, ◌≤◌, ◌<◌, ◌^◌, ℕ, List, length, option_map};
+ghost use Rattle.std.specs.Prelude.{◌≡◌, ◌+◌, ◌-◌, ◌<◌, ◌^◌, ℕ, List, length};
 ghost use Rattle.rep_forms.specs.Forms.{Form as form_of, byte, number};
 ghost use Rattle.rep_forms.specs.Entries.{entry_form};
 ghost use Rattle.rep_record.specs.Records.{record_form};

@@ -1,7 +1,6 @@
 //! What the nodes of a cluster have in common.
 
-ghost use Rattle.std.specs.Prelude.{◌≡◌, ◌+◌, ◌≤◌, ◌↔◌, true, length, option_map};
-ghost use Rattle.rep_types.specs.Settings.{Setting};
+ghost use Rattle.std.specs.Prelude.{◌≡◌, ◌↔◌, true};
 ghost use Rattle.rep_transfer.specs.Shapes.{shape_of, IsShape, shape_form};
 
 use arrayvec::ArrayVec;

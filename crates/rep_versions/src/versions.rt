@@ -1,6 +1,6 @@
 //! The versions of rows, by key and seqno.
 
-ghost use Rattle.std.specs.Prelude.{◌≡◌, OnOk, OnErr, IfOk, IfErr, IsOk, IsSome, IfSome, IsNone, ℕ};
+ghost use Rattle.std.specs.Prelude.{◌≡◌, OnOk, IfOk, IfErr, IsOk, IsSome, IfSome, IsNone, ℕ};
 ghost use Rattle.std.specs.FinMap as map;
 ghost use Rattle.rep_types.specs.declared.refusal.Refusal.TheVariants.{OutOfMemory};
 ghost use Rattle.rep_types.specs.Items.{writes_of};
@@ -56,12 +56,12 @@ pub struct Versions {
 }
 
 impl Model for Versions {
-    ghost use Rattle.std.specs.Prelude.{ℕ, List, Option};
+    ghost use Rattle.std.specs.Prelude.{ℕ, Option};
     ghost use Rattle.std.specs.Coded.{coded_option, coded_list, coded_ℕ};
     ghost use Rattle.std.specs.FinMap as map;
     ghost use Rattle.std.specs.HashMap.{IsUnique};
     ghost use Rattle.rep_types.specs.Keys.{key_eq};
-    ghost use Rattle.rep_versions.specs.Versions.{Kept, version_cmp, coded_version_key};
+    ghost use Rattle.rep_versions.specs.Versions.{Kept, coded_version_key};
     ghost use Rattle.rep_versions.specs.Rows.{kept_of};
 
     ghost Value = { Kept };

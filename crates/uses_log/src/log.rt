@@ -1,7 +1,7 @@
 //! A client of the log, proved from its contracts alone: a block is appended, so that a stop at any
 //! moment leaves the log that was or the log with it, and what a stop leaves is found again.
 
-ghost use Rattle.std.specs.Prelude.{◌≡◌, ◌+◌, ℕ, [], None, List, IfOk, IfErr};
+ghost use Rattle.std.specs.Prelude.{◌≡◌, ◌+◌, ℕ, None, List, IfOk, IfErr};
 ghost use Rattle.rep_types.specs.declared.judged.Judged.{Judged};
 ghost use Rattle.rep_types.specs.declared.refusal.Refusal.TheVariants.{Corrupt};
 ghost use Rattle.rep_types.specs.declared.refusal.Part.TheVariants.{Log as in_log};

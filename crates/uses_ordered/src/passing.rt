@@ -1,6 +1,6 @@
 //! Threads that pass both stations.
 
-ghost use Rattle.std.specs.Prelude.{◌≡◌, ◌+◌, ◌*◌, ◌-◌, ◌^◌, ◌<◌, ◌≤◌, [], ◌∷◌, ◌++◌, length, IfOk, IfErr, OnOk, ◌⊎◌};
+ghost use Rattle.std.specs.Prelude.{◌≡◌, ◌+◌, ◌*◌, ◌-◌, ◌^◌, ◌<◌, ◌≤◌, [], length, IfOk, IfErr, OnOk, ◌⊎◌};
 ghost use Rattle.std.specs.Thread.{IsSync};
 ghost use Rattle.rep_ordered.specs.Views.{opened};
 ghost use Rattle.rep_ordered.specs.Seats.{seat_of, stations_of};

@@ -1,6 +1,6 @@
 //! One station, passed with a ticket.
 
-ghost use Rattle.std.specs.Prelude.{◌≡◌, ◌≢◌, ℕ, ◌+◌, ◌-◌, ◌<◌, Option, Some, None, [], IfErr, IsNone, IsSome, OnOk, ◌⊎◌};
+ghost use Rattle.std.specs.Prelude.{◌≡◌, ◌≢◌, ◌+◌, ◌-◌, ◌<◌, Option, Some, None, [], IfErr, IsNone, IsSome, OnOk, ◌⊎◌};
 ghost use Rattle.rep_ordered.specs.Counts.{times};
 ghost use Rattle.rep_ordered.specs.Views.{StartsWith, common_after, except, grown, reached_at};
 ghost use Rattle.rep_ordered.specs.Seats.{stations_of};

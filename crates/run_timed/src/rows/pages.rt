@@ -1,6 +1,5 @@
 //! Reads rows of pages, each time of the device or through a pool.
 
-ghost use Rattle.std.specs.Prelude.{◌≡◌, length};
 ghost use Rattle.rep_layout.specs.Supers.{IsSuper};
 
 use arrayvec::ArrayVec;

@@ -1,8 +1,5 @@
 //! A lock of two stations.
 
-ghost use Rattle.std.specs.Prelude.{◌≡◌, IfOk, length};
-ghost use Rattle.rep_ordered.specs.Seats.{stations_of};
-
 use rep_ordered::{Keeps, OrderedLock, Refused};
 use rep_types::Refusal;
 use std::alloc::Global;
