@@ -24,7 +24,7 @@ use Rattle.rep_script.specs.declared.script_line.Command.TheVariants.{Step, Stat
 use Rattle.rep_record.specs.Reading.{order_line, is_next, next, number_in, outcome}
 use Rattle.rep_script.specs.ScriptLines.{script_line, delivered, delivery_of, whole_in}
 use Rattle.rep_script.specs.Judging.{Reading, reading_of, said_ahead, text_ahead, with_line, content, ReadsParams}
-use Rattle.rep_script.specs.Scripts.{script, script_on_disk, disk_line, unless_stop, IsOpening, EndsBehind, EndsOnDisk, Crashes, OnNewDisk, Stops, EndsAtFault, FailsAtStop, ScriptEnds, RunEnds, Did, Does, DoesOrStops, RunsLine, RunsDiskLine}
+use Rattle.rep_script.specs.Scripts.{script, script_on_disk, disk_line, unless_stop, IsOpening, EndsBehind, EndsOnDisk, OnNewDisk, Stops, EndsAtFault, FailsAtStop, ScriptEnds, RunEnds, Did, Does, DoesOrStops, RunsLine, RunsDiskLine}
 use Rattle.rep_script.proofs.Stepping.{said_end, said_refused, said_step}
 use Rattle.rep_script.proofs.Progress.{at_start}
 
@@ -250,30 +250,30 @@ abbrev pub memory : Ghosts Memory
 memory = record { size = λ m. length (stable m.history); failures = λ m. m.failures; history = λ m. m.history; honest = λ m. Unit {0} }
 
 abbrev pub DoesInMemory : Replica Memory → Command → Replica Memory → Type 0
-DoesInMemory old c new = DoesOrStops memory Crashes old c new
+DoesInMemory old c new = DoesOrStops memory old c new
 
 abbrev pub EndsInMemory : Reading Command → Result (Unit {0}) Refusal → Type 0
-EndsInMemory r result = ScriptEnds memory Crashes r result
+EndsInMemory r result = ScriptEnds memory r result
 
-pub ran_in_memory : {D : Type 0} (g : Ghosts D) (crashes : Loss → D → D → Type 0) (old new : Replica D) (c : Option (Result Command Refusal)) →
-    RunsLine g old c (Ok None) new → RanLine (DoesOrStops g crashes) old c new
-ran_in_memory g crashes old new None ran = ran.1
-ran_in_memory g crashes old new (Some (Ok (Step e))) ran = ran.0
-ran_in_memory g crashes old new (Some (Ok State)) ran = ran.0
-ran_in_memory g crashes old new (Some (Ok Limits)) ran = ran.0
-ran_in_memory g crashes old new (Some (Ok (Sum position))) ran = ran.0
-ran_in_memory g crashes old new (Some (Ok (Stop loss))) ran = none_is_no_stop loss ran.0
-ran_in_memory g crashes old new (Some (Err e)) ran = ok_is_no_err {A = Option Loss} None e ran.0
+pub ran_in_memory : (g : Ghosts Memory) (old new : Replica Memory) (c : Option (Result Command Refusal)) →
+    RunsLine g old c (Ok None) new → RanLine (DoesOrStops g) old c new
+ran_in_memory g old new None ran = ran.1
+ran_in_memory g old new (Some (Ok (Step e))) ran = ran.0
+ran_in_memory g old new (Some (Ok State)) ran = ran.0
+ran_in_memory g old new (Some (Ok Limits)) ran = ran.0
+ran_in_memory g old new (Some (Ok (Sum position))) ran = ran.0
+ran_in_memory g old new (Some (Ok (Stop loss))) ran = none_is_no_stop loss ran.0
+ran_in_memory g old new (Some (Err e)) ran = ok_is_no_err {A = Option Loss} None e ran.0
 
-pub failed_in_memory : {D : Type 0} (g : Ghosts D) (crashes : Loss → D → D → Type 0) (old new : Replica D) (c : Option (Result Command Refusal)) (refusal : Refusal) →
-    RunsLine g old c (Err refusal) new → LineFails (DoesOrStops g crashes) old c refusal new
-failed_in_memory g crashes old new None refusal ran = err_is_no_ok {A = Option Loss} refusal None ran.0
-failed_in_memory g crashes old new (Some (Ok (Step e))) refusal ran = ran
-failed_in_memory g crashes old new (Some (Ok State)) refusal ran = ran
-failed_in_memory g crashes old new (Some (Ok Limits)) refusal ran = ran
-failed_in_memory g crashes old new (Some (Ok (Sum position))) refusal ran = ran
-failed_in_memory g crashes old new (Some (Ok (Stop loss))) refusal ran = err_is_no_ok {A = Option Loss} refusal (Some loss) ran.0
-failed_in_memory g crashes old new (Some (Err e)) refusal ran = (same_err {A = Option Loss} refusal e ran.0, ran.1)
+pub failed_in_memory : (g : Ghosts Memory) (old new : Replica Memory) (c : Option (Result Command Refusal)) (refusal : Refusal) →
+    RunsLine g old c (Err refusal) new → LineFails (DoesOrStops g) old c refusal new
+failed_in_memory g old new None refusal ran = err_is_no_ok {A = Option Loss} refusal None ran.0
+failed_in_memory g old new (Some (Ok (Step e))) refusal ran = ran
+failed_in_memory g old new (Some (Ok State)) refusal ran = ran
+failed_in_memory g old new (Some (Ok Limits)) refusal ran = ran
+failed_in_memory g old new (Some (Ok (Sum position))) refusal ran = ran
+failed_in_memory g old new (Some (Ok (Stop loss))) refusal ran = err_is_no_ok {A = Option Loss} refusal (Some loss) ran.0
+failed_in_memory g old new (Some (Err e)) refusal ran = (same_err {A = Option Loss} refusal e ran.0, ran.1)
 
 pub stop_is_asked : {D : Type 0} (g : Ghosts D) (old new : Replica D) (c : Option (Result Command Refusal)) (loss : Loss) →
     RunsLine g old c (Ok (Some loss)) new → (c ≡ Some (Ok (Stop loss))) × (new ≡ old)
@@ -286,46 +286,46 @@ stop_is_asked g old new (Some (Ok (Stop l))) loss ran = (same_stop loss l ran.0,
 stop_is_asked g old new (Some (Err e)) loss ran = ok_is_no_err {A = Option Loss} (Some loss) e ran.0
 
 -- a stop that is opened again
-pub stop_ran : {D : Type 0} (g : Ghosts D) (crashes : Loss → D → D → Type 0) (old mid new : Replica D) (c : Option (Result Command Refusal)) (loss : Loss) →
-    RunsLine g old c (Ok (Some loss)) mid → Stops g crashes loss mid (Ok new) → RanLine (DoesOrStops g crashes) old c new
-stop_ran g crashes old mid new c loss ran stops =
+pub stop_ran : (g : Ghosts Memory) (old mid new : Replica Memory) (c : Option (Result Command Refusal)) (loss : Loss) →
+    RunsLine g old c (Ok (Some loss)) mid → Stops g loss mid (Ok new) → RanLine (DoesOrStops g) old c new
+stop_ran g old mid new c loss ran stops =
     let asked = stop_is_asked g old mid c loss ran in
-    subst (λ said. RanLine (DoesOrStops g crashes) old said new) (sym asked.0)
-    (subst (λ r. Stops g crashes loss r (Ok new)) asked.1 stops)
+    subst (λ said. RanLine (DoesOrStops g) old said new) (sym asked.0)
+    (subst (λ r. Stops g loss r (Ok new)) asked.1 stops)
 
 -- a script whose lines were run
-pub script_run_ends : {D : Type 0} (g : Ghosts D) (crashes : Loss → D → D → Type 0) (p : Setting) (asked : List Command × Option Refusal) (first last : Replica D) (result : Result (Unit {0}) Refusal) →
-    OnNewDisk g p (Ok first) → RunEnds (DoesOrStops g crashes) asked first result last →
-    ScriptEnds g crashes (reading_of p asked) result
-script_run_ends g crashes p asked first last (Ok _) on ends =
+pub script_run_ends : (g : Ghosts Memory) (p : Setting) (asked : List Command × Option Refusal) (first last : Replica Memory) (result : Result (Unit {0}) Refusal) →
+    OnNewDisk g p (Ok first) → RunEnds (DoesOrStops g) asked first result last →
+    ScriptEnds g (reading_of p asked) result
+script_run_ends g p asked first last (Ok _) on ends =
     (ends.0, (last, record { first = first; on_new_disk = on; did = ends.1 }))
-script_run_ends g crashes p asked first last (Err refusal) on ends =
-    elim refusal as (λ e. RunEnds (DoesOrStops g crashes) asked first (Err e) last → ScriptEnds g crashes (reading_of p asked) (Err e)) [
+script_run_ends g p asked first last (Err refusal) on ends =
+    elim refusal as (λ e. RunEnds (DoesOrStops g) asked first (Err e) last → ScriptEnds g (reading_of p asked) (Err e)) [
       | StreamFault ↦ λ _. tt
       | _ ↦ λ ended. inl (record { fault = ended.0; done = inr (last, record { first = first; on_new_disk = on; did = ended.1 }) })
     ] ends
 
 -- a refusal that is no stream fault may come so
-any_refusal : {D : Type 0} (g : Ghosts D) (crashes : Loss → D → D → Type 0) (r : Reading Command) (refusal : Refusal) →
-    (EndsAtFault g crashes r refusal ⊎ (OnNewDisk g r.setting (Err refusal) ⊎ FailsAtStop g crashes r.setting r.order refusal)) →
-    ScriptEnds g crashes r (Err refusal)
-any_refusal g crashes r refusal why =
-    elim refusal as (λ e. (EndsAtFault g crashes r e ⊎ (OnNewDisk g r.setting (Err e) ⊎ FailsAtStop g crashes r.setting r.order e)) →
-    ScriptEnds g crashes r (Err e)) [ StreamFault ↦ λ _. tt | _ ↦ λ w. w ] why
+any_refusal : (g : Ghosts Memory) (r : Reading Command) (refusal : Refusal) →
+    (EndsAtFault g r refusal ⊎ (OnNewDisk g r.setting (Err refusal) ⊎ FailsAtStop g r.setting r.order refusal)) →
+    ScriptEnds g r (Err refusal)
+any_refusal g r refusal why =
+    elim refusal as (λ e. (EndsAtFault g r e ⊎ (OnNewDisk g r.setting (Err e) ⊎ FailsAtStop g r.setting r.order e)) →
+    ScriptEnds g r (Err e)) [ StreamFault ↦ λ _. tt | _ ↦ λ w. w ] why
 
 -- a stop that is not opened again
-pub script_stop_fails : {D : Type 0} (g : Ghosts D) (crashes : Loss → D → D → Type 0) (p : Setting) (start left left' : Option (List ℕ)) (first u new : Unread) (old r : Replica D) (loss : Loss) (refusal : Refusal) (line : List ℕ) →
-    OnNewDisk g p (Ok old) → IfSome start (λ text. HasRun (DoesOrStops g crashes) script_line text first old u (ahead u left) r) →
+pub script_stop_fails : (g : Ghosts Memory) (p : Setting) (start left left' : Option (List ℕ)) (first u new : Unread) (old r : Replica Memory) (loss : Loss) (refusal : Refusal) (line : List ℕ) →
+    OnNewDisk g p (Ok old) → IfSome start (λ text. HasRun (DoesOrStops g) script_line text first old u (ahead u left) r) →
     IfSome left (λ known. NextLine (u.pending ++ known) u (Ok true) new left' line) → new.number ≡ u.number + 1 →
-    content script_line new.number line ≡ Some (Ok (Stop loss)) → Stops g crashes loss r (Err refusal) →
-    IfSome start (λ text. ScriptEnds g crashes (reading_of p (said_ahead script_line first text)) (Err refusal))
-script_stop_fails g crashes p None left left' first u new old r loss refusal line on h next numbered asked stops = tt
-script_stop_fails g crashes p (Some text) None left' first u new old r loss refusal line on h next numbered asked stops = absurd h.said
-script_stop_fails g crashes p (Some text) (Some known) left' first u new old r loss refusal line on h next numbered asked stops =
+    content script_line new.number line ≡ Some (Ok (Stop loss)) → Stops g loss r (Err refusal) →
+    IfSome start (λ text. ScriptEnds g (reading_of p (said_ahead script_line first text)) (Err refusal))
+script_stop_fails g p None left left' first u new old r loss refusal line on h next numbered asked stops = tt
+script_stop_fails g p (Some text) None left' first u new old r loss refusal line on h next numbered asked stops = absurd h.said
+script_stop_fails g p (Some text) (Some known) left' first u new old r loss refusal line on h next numbered asked stops =
     let later = said_ahead script_line new next.rest in
     let said : said_ahead script_line first text ≡ (h.done ++ Stop loss ∷ later.0, later.1) =
     h.said ∙ ap (done_then h.done) (said_step script_line (u.pending ++ known) u new left' line next numbered ∙ ap (λ c. with_line c later) asked) in
-    any_refusal g crashes (reading_of p (said_ahead script_line first text)) refusal (inr (inr (record {
+    any_refusal g (reading_of p (said_ahead script_line first text)) refusal (inr (inr (record {
       before = h.done;
       loss = loss;
       later = later.0;
@@ -336,41 +336,41 @@ script_stop_fails g crashes p (Some text) (Some known) left' first u new old r l
     })))
 
 -- a whole script whose params line is not read
-pub script_unread : {D : Type 0} (g : Ghosts D) (crashes : Loss → D → D → Type 0) (left left' : Option (List ℕ)) (u new : Unread) (refusal : Refusal) → u ≡ at_start →
+pub script_unread : (g : Ghosts Memory) (left left' : Option (List ℕ)) (u new : Unread) (refusal : Refusal) → u ≡ at_start →
     IfSome (ahead u left) (λ known. ReadsParams order_line known u (Err refusal) new left' × ReadsParams script_line known u (Err refusal) new left') →
-    IfSome left (λ text. ScriptEnds g crashes (script text) (Err refusal))
-script_unread g crashes None left' u new refusal is reads = tt
-script_unread g crashes (Some text) left' u new refusal is reads =
-    elim refusal as (λ e. ReadsParams script_line text at_start (Err e) new left' → ScriptEnds g crashes (script text) (Err e)) [
+    IfSome left (λ text. ScriptEnds g (script text) (Err refusal))
+script_unread g None left' u new refusal is reads = tt
+script_unread g (Some text) left' u new refusal is reads =
+    elim refusal as (λ e. ReadsParams script_line text at_start (Err e) new left' → ScriptEnds g (script text) (Err e)) [
       | StreamFault ↦ λ _. tt
       | _ ↦ λ e. rw e (inl (record { fault = refl; done = inl refl }))
     ] (subst (λ (v : Unread). ReadsParams script_line (v.pending ++ text) v (Err refusal) new left') is reads.1)
 
 -- a script whose params line is read ends as the lines behind it do
-begun : {D : Type 0} (g : Ghosts D) (crashes : Loss → D → D → Type 0) (text : List ℕ) (first new : Unread) (rest : Option (List ℕ)) (p : Setting) (result : Result (Unit {0}) Refusal) →
+begun : (g : Ghosts Memory) (text : List ℕ) (first new : Unread) (rest : Option (List ℕ)) (p : Setting) (result : Result (Unit {0}) Refusal) →
     IsSomeAnd rest (λ rest. text_ahead script_line first text ≡ reading_of p (said_ahead script_line new rest)) →
-    IfSome rest (λ rest. ScriptEnds g crashes (reading_of p (said_ahead script_line new rest)) result) → ScriptEnds g crashes (text_ahead script_line first text) result
-begun g crashes text first new None p result reads ends = absurd reads
-begun g crashes text first new (Some rest) p result reads ends =
-    subst (λ r. ScriptEnds g crashes r result) (sym reads) ends
+    IfSome rest (λ rest. ScriptEnds g (reading_of p (said_ahead script_line new rest)) result) → ScriptEnds g (text_ahead script_line first text) result
+begun g text first new None p result reads ends = absurd reads
+begun g text first new (Some rest) p result reads ends =
+    subst (λ r. ScriptEnds g r result) (sym reads) ends
 
 -- a whole script whose params line is read, and for which there is no disk
-pub script_without_disk : {D : Type 0} (g : Ghosts D) (crashes : Loss → D → D → Type 0) (left left' : Option (List ℕ)) (u new : Unread) (p : Setting) (refusal : Refusal) → u ≡ at_start →
+pub script_without_disk : (g : Ghosts Memory) (left left' : Option (List ℕ)) (u new : Unread) (p : Setting) (refusal : Refusal) → u ≡ at_start →
     IfSome (ahead u left) (λ known. ReadsParams order_line known u (Ok p) new left' × ReadsParams script_line known u (Ok p) new left') → OnNewDisk g p (Err refusal) →
-    IfSome left (λ text. ScriptEnds g crashes (script text) (Err refusal))
-script_without_disk g crashes None left' u new p refusal is reads on = tt
-script_without_disk g crashes (Some text) left' u new p refusal is reads on =
-    begun g crashes text at_start new (ahead new left') p (Err refusal) (subst (λ (v : Unread). ReadsParams script_line (v.pending ++ text) v (Ok p) new left') is reads.1)
-    (some_by_each (ahead new left') (λ rest. any_refusal g crashes (reading_of p (said_ahead script_line new rest)) refusal (inr (inl on))))
+    IfSome left (λ text. ScriptEnds g (script text) (Err refusal))
+script_without_disk g None left' u new p refusal is reads on = tt
+script_without_disk g (Some text) left' u new p refusal is reads on =
+    begun g text at_start new (ahead new left') p (Err refusal) (subst (λ (v : Unread). ReadsParams script_line (v.pending ++ text) v (Ok p) new left') is reads.1)
+    (some_by_each (ahead new left') (λ rest. any_refusal g (reading_of p (said_ahead script_line new rest)) refusal (inr (inl on))))
 
 -- a whole script whose params line is read, and whose lines are run
-pub script_read : {D : Type 0} (g : Ghosts D) (crashes : Loss → D → D → Type 0) (left left' : Option (List ℕ)) (u new : Unread) (p : Setting) (result : Result (Unit {0}) Refusal) → u ≡ at_start →
+pub script_read : (g : Ghosts Memory) (left left' : Option (List ℕ)) (u new : Unread) (p : Setting) (result : Result (Unit {0}) Refusal) → u ≡ at_start →
     IfSome (ahead u left) (λ known. ReadsParams order_line known u (Ok p) new left' × ReadsParams script_line known u (Ok p) new left') →
-    IfSome (ahead new left') (λ rest. ScriptEnds g crashes (reading_of p (said_ahead script_line new rest)) result) →
-    IfSome left (λ text. ScriptEnds g crashes (script text) result)
-script_read g crashes None left' u new p result is reads ends = tt
-script_read g crashes (Some text) left' u new p result is reads ends =
-    begun g crashes text at_start new (ahead new left') p result (subst (λ (v : Unread). ReadsParams script_line (v.pending ++ text) v (Ok p) new left') is reads.1) ends
+    IfSome (ahead new left') (λ rest. ScriptEnds g (reading_of p (said_ahead script_line new rest)) result) →
+    IfSome left (λ text. ScriptEnds g (script text) result)
+script_read g None left' u new p result is reads ends = tt
+script_read g (Some text) left' u new p result is reads ends =
+    begun g text at_start new (ahead new left') p result (subst (λ (v : Unread). ReadsParams script_line (v.pending ++ text) v (Ok p) new left') is reads.1) ends
 
 -- ---- how a script in memory ends
 
@@ -380,18 +380,18 @@ pub ends_in_memory : (p : Setting) (start : Option (List ℕ)) (first : Unread) 
 ends_in_memory p None first old r result end is on ends = tt
 ends_in_memory p (Some text) first old r result end is on ends =
     subst (λ e. EndsInMemory (reading_of p (said_ahead script_line first text)) e) (sym is)
-    (script_run_ends memory Crashes p (said_ahead script_line first text) old r end on ends)
+    (script_run_ends memory p (said_ahead script_line first text) old r end on ends)
 
 pub stop_fails_in_memory : (p : Setting) (start left left' : Option (List ℕ)) (first u new : Unread) (old r mid : Replica Memory) (loss : Loss) (result : Result (Unit {0}) Refusal) (refusal : Refusal) (line : List ℕ) →
     result ≡ Err refusal → OnNewDisk memory p (Ok old) → IfSome start (λ text. HasRun DoesInMemory script_line text first old u (ahead u left) r) →
     IfSome left (λ known. NextLine (u.pending ++ known) u (Ok true) new left' line) → new.number ≡ u.number + 1 →
-    RunsLine memory r (content script_line new.number line) (Ok (Some loss)) mid → Stops memory Crashes loss mid (Err refusal) →
+    RunsLine memory r (content script_line new.number line) (Ok (Some loss)) mid → Stops memory loss mid (Err refusal) →
     IfSome start (λ text. EndsInMemory (reading_of p (said_ahead script_line first text)) result)
 stop_fails_in_memory p start left left' first u new old r mid loss result refusal line is on h next numbered ran stops =
     let asked = stop_is_asked memory r mid (content script_line new.number line) loss ran in
     subst (λ e. IfSome start (λ text. EndsInMemory (reading_of p (said_ahead script_line first text)) e)) (sym is)
-    (script_stop_fails memory Crashes p start left left' first u new old r loss refusal line on h next numbered asked.0
-    (subst (λ x. Stops memory Crashes loss x (Err refusal)) asked.1 stops))
+    (script_stop_fails memory p start left left' first u new old r loss refusal line on h next numbered asked.0
+    (subst (λ x. Stops memory loss x (Err refusal)) asked.1 stops))
 
 -- the writer failed
 pub unwritten_in_memory : (p : Setting) (start : Option (List ℕ)) (first : Unread) (result : Result (Unit {0}) Refusal) (refusal : Refusal) → result ≡ Err refusal → refusal ≡ StreamFault →

@@ -80,9 +80,9 @@ pub record Crashes (loss : Loss) (old new : Memory) : Type 0 where
   pub failures : new.failures ≡ old.failures
 
 -- A replica was stopped: its disk lost what the stop loses, and what was left was opened, or refused so.
-pub record Stops {D : Type 0} (g : Ghosts D) (crashes : Loss → D → D → Type 0) (loss : Loss) (old : Replica D) (result : Result (Replica D) Refusal) : Type 0 where
-  pub left : D
-  pub lost : crashes loss old.engine.disk left
+pub record Stops (g : Ghosts Memory) (loss : Loss) (old : Replica Memory) (result : Result (Replica Memory) Refusal) : Type 0 where
+  pub left : Memory
+  pub lost : Crashes loss old.engine.disk left
   pub opened : Opened g left result
 
 -- ---- what running a script does
@@ -97,12 +97,12 @@ Does g old (Sum position) new = TakesSum g old position new
 Does g old (Stop loss) new = ⊥
 
 -- The same on a disk that a stop makes crash, and opens again.
-abbrev pub DoesOrStops : {D : Type 0} → Ghosts D → (Loss → D → D → Type 0) → Replica D → Command → Replica D → Type 0
-DoesOrStops g crashes old (Step e) new = (a : Answer) × IsStep g old e a new
-DoesOrStops g crashes old State new = new ≡ old
-DoesOrStops g crashes old Limits new = new ≡ old
-DoesOrStops g crashes old (Sum position) new = TakesSum g old position new
-DoesOrStops g crashes old (Stop loss) new = Stops g crashes loss old (Ok new)
+abbrev pub DoesOrStops : Ghosts Memory → Replica Memory → Command → Replica Memory → Type 0
+DoesOrStops g old (Step e) new = (a : Answer) × IsStep g old e a new
+DoesOrStops g old State new = new ≡ old
+DoesOrStops g old Limits new = new ≡ old
+DoesOrStops g old (Sum position) new = TakesSum g old position new
+DoesOrStops g old (Stop loss) new = Stops g loss old (Ok new)
 
 -- These commands were done one after another, each once.
 abbrev pub Did : {X : Type 0} → (X → Command → X → Type 0) → X → List Command → X → Type 0
@@ -129,35 +129,35 @@ pub record EndsOnDisk {D : Type 0} (g : Ghosts D) (asked : List Command × Optio
   pub ends : EndsBehind g asked opening new result
 
 -- These commands were done by a replica on a new disk with these parameters, and this one came of it.
-pub record Reaches {D : Type 0} (g : Ghosts D) (crashes : Loss → D → D → Type 0) (p : Setting) (commands : List Command) (last : Replica D) : Type 0 where
-  pub first : Replica D
+pub record Reaches (g : Ghosts Memory) (p : Setting) (commands : List Command) (last : Replica Memory) : Type 0 where
+  pub first : Replica Memory
   pub on_new_disk : OnNewDisk g p (Ok first)
-  pub did : Did (DoesOrStops g crashes) first commands last
+  pub did : Did (DoesOrStops g) first commands last
 
 -- A stop of the script could not be opened again, and this is why; what stands before it was done.
-pub record FailsAtStop {D : Type 0} (g : Ghosts D) (crashes : Loss → D → D → Type 0) (p : Setting) (commands : List Command) (refusal : Refusal) : Type 0 where
+pub record FailsAtStop (g : Ghosts Memory) (p : Setting) (commands : List Command) (refusal : Refusal) : Type 0 where
   pub before : List Command
   pub loss : Loss
   pub later : List Command
   pub split : commands ≡ before ++ Stop loss ∷ later
-  pub last : Replica D
-  pub reaches : Reaches g crashes p before last
-  pub stops : Stops g crashes loss last (Err refusal)
+  pub last : Replica Memory
+  pub reaches : Reaches g p before last
+  pub stops : Stops g loss last (Err refusal)
 
 -- The text's first fault is this, and all that it asks for before was done; where it asks for nothing, there may be no disk.
-pub record EndsAtFault {D : Type 0} (g : Ghosts D) (crashes : Loss → D → D → Type 0) (r : Reading Command) (refusal : Refusal) : Type 0 where
+pub record EndsAtFault (g : Ghosts Memory) (r : Reading Command) (refusal : Refusal) : Type 0 where
   pub fault : r.fault ≡ Some refusal
-  pub done : (r.order ≡ []) ⊎ ((last : Replica D) × Reaches g crashes r.setting r.order last)
+  pub done : (r.order ≡ []) ⊎ ((last : Replica Memory) × Reaches g r.setting r.order last)
 
 -- How a script ended: at success the text has no fault, and all that it asks for was done; a stream fault may come at any moment, since it
 -- may be the reader's or the writer's; any other refusal is the text's first fault, and all before it was done, or a new disk or one behind a
 -- stop was refused so, and all before that was done.
-abbrev pub ScriptEnds : {D : Type 0} → Ghosts D → (Loss → D → D → Type 0) → Reading Command → Result (Unit {0}) Refusal → Type 0
-ScriptEnds g crashes r (Ok _) = (r.fault ≡ None) × ((last : _) × Reaches g crashes r.setting r.order last)
-ScriptEnds g crashes r (Err StreamFault) = Unit {0}
-ScriptEnds g crashes r (Err refusal) =
-    EndsAtFault g crashes r refusal
-    ⊎ (OnNewDisk g r.setting (Err refusal) ⊎ FailsAtStop g crashes r.setting r.order refusal)
+abbrev pub ScriptEnds : Ghosts Memory → Reading Command → Result (Unit {0}) Refusal → Type 0
+ScriptEnds g r (Ok _) = (r.fault ≡ None) × ((last : _) × Reaches g r.setting r.order last)
+ScriptEnds g r (Err StreamFault) = Unit {0}
+ScriptEnds g r (Err refusal) =
+    EndsAtFault g r refusal
+    ⊎ (OnNewDisk g r.setting (Err refusal) ⊎ FailsAtStop g r.setting r.order refusal)
 
 -- ---- what running one line does
 

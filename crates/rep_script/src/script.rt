@@ -76,7 +76,7 @@ fn stopped_and_opened(
     replica: Replica<MemDisk>,
     loss: Loss,
 ) -> Result<Replica<MemDisk>, Refusal>
-    ensures stops { Stops ⟦<MemDisk as Disk>⟧ Crashes loss replica result }
+    ensures stops { Stops ⟦<MemDisk as Disk>⟧ loss replica result }
     ensures own { IfErr result (λ refusal. refusal ≢ Refusal.StreamFault) }
 {
     let disk = stopped(replica, loss);
@@ -196,7 +196,7 @@ fn run_in_memory<R: Source, W: Sink>(
     waiting: &mut Waiting,
 ) -> Result<(), Refusal>
     ensures ends { (p : Setting) → OnNewDisk ⟦<MemDisk as Disk>⟧ p (Ok replica) → IfSome (ahead text.old (R.remaining reader.old)) (λ known.
-        ScriptEnds ⟦<MemDisk as Disk>⟧ Crashes (reading_of p (said_ahead script_line text.old known)) result) }
+        ScriptEnds ⟦<MemDisk as Disk>⟧ (reading_of p (said_ahead script_line text.old known)) result) }
     // An answer without room may be the fault too: the writer is told of it where the last answers are sent.
     ensures notes { NotesBoth ((waiting.new.failed ≡ true) ⊎ IsTooLong text.old (R.remaining reader.old)) (R.failed reader.old) (R.failed reader.new) (W.failed writer.old) (W.failed writer.new) result }
 {
@@ -237,7 +237,7 @@ fn run_from<R: Source, W: Sink>(
     writer: &mut W,
 ) -> Result<(), Refusal>
     ensures ends { (p : Setting) → OnNewDisk ⟦<MemDisk as Disk>⟧ p (Ok replica) → IfSome (ahead text.old (R.remaining reader.old)) (λ known.
-        ScriptEnds ⟦<MemDisk as Disk>⟧ Crashes (reading_of p (said_ahead script_line text.old known)) result) }
+        ScriptEnds ⟦<MemDisk as Disk>⟧ (reading_of p (said_ahead script_line text.old known)) result) }
     ensures notes { NotesBoth (IsTooLong text.old (R.remaining reader.old)) (R.failed reader.old) (R.failed reader.new) (W.failed writer.old) (W.failed writer.new) result }
 {
     let mut waiting = Waiting::new();
@@ -263,7 +263,7 @@ pub fn run_script<R: Source, W: Sink>(
     reader: &mut R,
     writer: &mut W,
 ) -> Result<(), Refusal>
-    ensures ends { IfSome (R.remaining reader.old) (λ text. ScriptEnds ⟦<MemDisk as Disk>⟧ Crashes (script text) result) }
+    ensures ends { IfSome (R.remaining reader.old) (λ text. ScriptEnds ⟦<MemDisk as Disk>⟧ (script text) result) }
     // A stream fault is one of the streams, or the text is too long.
     ensures notes { NotesBoth (IsLongText (R.remaining reader.old)) (R.failed reader.old) (R.failed reader.new) (W.failed writer.old) (W.failed writer.new) result }
 {

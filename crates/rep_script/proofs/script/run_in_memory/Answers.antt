@@ -5,7 +5,7 @@ use Rattle.rep_disk.specs.declared.memory.Loss.{Loss}
 use Rattle.rep_record.specs.Lines.{NextLine, ahead, IsTooLong}
 use Rattle.rep_script.specs.ScriptLines.{script_line}
 use Rattle.rep_script.specs.Judging.{content}
-use Rattle.rep_script.specs.Scripts.{Crashes, Stops, RunsLine}
+use Rattle.rep_script.specs.Scripts.{Stops, RunsLine}
 use Rattle.rep_script.proofs.Noting.{GoesOn, line_goes, line_stops, answer_stops, own_stops, text_ends}
 use Rattle.rep_script.proofs.Scripting.{memory, DoesInMemory, run_refused, run_all, run_more, run_line_ends, ran_in_memory, failed_in_memory, stop_ran, ends_in_memory, stop_fails_in_memory, unwritten_in_memory}
 use Rattle.rep_script.proofs.script.run_in_memory.Goals as goal
@@ -52,7 +52,7 @@ returns-in-Err-run_line-clause-ends g c p on =
     ends_in_memory p start c.args.text.now c.args.replica c.run_line.new.replica c.let_go-in-Err-run_line.result (Err c.in-Err-run_line.refusal) c.let_go-in-Err-run_line.ensures on
     (run_line_ends DoesInMemory script_line start (left c.lines.reader) (left c.next_line.new.reader) c.args.text.now c.lines.text c.next_line.new.text c.args.replica c.lines.replica
     c.run_line.new.replica c.in-Err-run_line.refusal c.next_line.new.line.items c.lines.invariant.done (next g line) (numbered g line)
-    (failed_in_memory memory Crashes c.lines.replica c.run_line.new.replica said c.in-Err-run_line.refusal runs))
+    (failed_in_memory memory c.lines.replica c.run_line.new.replica said c.in-Err-run_line.refusal runs))
 
 pub returns-in_err-replica-in-Ok-Some-clause-ends : goal.returns-in_err-replica-in-Ok-Some-clause-ends
 returns-in_err-replica-in-Ok-Some-clause-ends g c p on =
@@ -60,7 +60,7 @@ returns-in_err-replica-in-Ok-Some-clause-ends g c p on =
     let line = (goal.at.returns-in_err-replica-in-Ok-Some-clause-ends g c).After-run_line in
     let runs = did g line (Ok (Some c.in-Ok-Some.loss)) (c.in-Ok-Some.is ∙ ap Ok c.in-Ok-Some.field-0-is) in
     let refusal = c.in_err-replica-in-Ok-Some.field-0.0 in
-    let stops : Stops memory Crashes c.in-Ok-Some.loss c.run_line.new.replica (Err refusal) =
+    let stops : Stops memory c.in-Ok-Some.loss c.run_line.new.replica (Err refusal) =
     rw c.in_err-replica-in-Ok-Some.was at c.stopped_and_opened.ensures.stops in
     let q = err_from_is_err_and c.from_residual.result c.from_residual.ensures.1 in
     stop_fails_in_memory p (ahead c.args.text.now (left c.args.reader.now)) (left c.lines.reader) (left c.next_line.new.reader) c.args.text.now c.lines.text c.next_line.new.text
@@ -73,12 +73,12 @@ lines-preserved g c =
     let line = (goal.at.lines-preserved g c).After-run_line in
     let said = content script_line c.next_line.new.text.number c.next_line.new.line.items in
     let runs = did g line (Ok (Some c.in-Ok-Some.loss)) (c.in-Ok-Some.is ∙ ap Ok c.in-Ok-Some.field-0-is) in
-    let stops : Stops memory Crashes c.in-Ok-Some.loss c.run_line.new.replica (Ok c.in_ok-replica-in-Ok-Some.replica) =
+    let stops : Stops memory c.in-Ok-Some.loss c.run_line.new.replica (Ok c.in_ok-replica-in-Ok-Some.replica) =
     rw c.in_ok-replica-in-Ok-Some.was at c.stopped_and_opened.ensures.stops in
     record {
       done = run_more DoesInMemory script_line (ahead c.args.text.now (left c.args.reader.now)) (left c.lines.reader) (left c.next_line.new.reader) c.args.text.now c.lines.text c.next_line.new.text
           c.args.replica c.lines.replica c.in_ok-replica-in-Ok-Some.replica c.next_line.new.line.items c.lines.invariant.done (next g line) (numbered g line)
-          (stop_ran memory Crashes c.lines.replica c.run_line.new.replica c.in_ok-replica-in-Ok-Some.replica said c.in-Ok-Some.loss runs stops);
+          (stop_ran memory c.lines.replica c.run_line.new.replica c.in_ok-replica-in-Ok-Some.replica said c.in-Ok-Some.loss runs stops);
       noted = passed g line;
     }
 
@@ -96,7 +96,7 @@ lines-preserved-in-Ok-None g c =
     record {
       done = run_more DoesInMemory script_line (ahead c.args.text.now (left c.args.reader.now)) (left c.lines.reader) (left c.next_line.new.reader) c.args.text.now c.lines.text c.next_line.new.text
           c.args.replica c.lines.replica c.run_line.new.replica c.next_line.new.line.items c.lines.invariant.done (next g line) (numbered g line)
-          (ran_in_memory memory Crashes c.lines.replica c.run_line.new.replica said runs);
+          (ran_in_memory memory c.lines.replica c.run_line.new.replica said runs);
       noted = passed g line;
     }
 
