@@ -8,20 +8,34 @@ ghost use Rattle.rep_node.specs.Homes.{IsLegal};
 use crate::home::Home;
 use crate::node::LockSeat;
 use crossbeam_utils::atomic::AtomicCell;
-use crossbeam_utils::sync::EventCount;
+use crossbeam_utils::sync::{EventCount, Key};
 use rep_disk::Disk;
 use rep_ordered::{Front, OrderedLock};
 use rep_types::Judged;
 
-/// Wakes whoever waits until more is durable or the node is halted, once that has happened. No contract speaks of what the numbers and
-/// the flag say: they are hints for those who wait.
+/// Wakes those who sleep until more is durable or the node is halted, once that has happened. And wakes one who may take the lead, once the
+/// lead is free. No contract speaks of what the numbers and the flag say: they are hints for those who wait.
+///
+/// Each announces a sleep first, then looks, and then sleeps. So whoever sleeps is woken by the change that the look did not see: who raises
+/// the durable number, or halts the node, wakes all after that.
+///
+/// The lead does not stay free while candidates sleep. A candidate sleeps only once it found another one in the lead. That one lets the
+/// lead go later, and then wakes one of the candidates that sleep. The one that wakes takes the lead, unless
+///
+/// - another one took it first, who lets it go later, and then wakes one; or
+/// - what it waits for is durable by then, or the node is halted. At its look before the sleep neither was so, and nothing woke it since. So
+///   whoever changed that has still to wake all.
+///
+/// Those who never lead sleep elsewhere: among the candidates one of them could be the only one that wakes, and nobody would lead.
 #[derive(Drop)]
 pub(crate) struct Changes {
-    /// Who waits until more is durable.
-    pub(crate) submitters: EventCount,
+    /// Who waits until more is durable, and never leads.
+    submitters: EventCount,
+    /// Who waits until more is durable, and takes the lead if it is free.
+    candidates: EventCount,
     /// Who waits for something to make durable.
     pub(crate) keepers: EventCount,
-    /// Whether one of the submitters makes items durable, while the others wait.
+    /// Whether one of the candidates makes items durable, while the others wait.
     has_leader: AtomicCell<bool>,
     /// How many items were under way when the last of them became durable: so many may come for the next block.
     under_way: AtomicCell<u64>,
@@ -32,21 +46,32 @@ impl Changes {
     pub(crate) fn new() -> Changes {
         Changes {
             submitters: EventCount::new(),
+            candidates: EventCount::new(),
             keepers: EventCount::new(),
             has_leader: AtomicCell::new(false),
             under_way: AtomicCell::new(0),
         }
     }
 
-    /// Takes the lead among the submitters, if nobody has it.
+    /// Announces a sleep until more is durable. Who `keeps` is a candidate for the lead. It looks again before it sleeps: at the durable
+    /// number first, and then at the lead.
+    pub(crate) fn announced(&self, keeps: bool) -> Key<'_> {
+        if keeps {
+            self.candidates.prepare_wait()
+        } else {
+            self.submitters.prepare_wait()
+        }
+    }
+
+    /// Takes the lead among the candidates, if nobody has it.
     pub(crate) fn lead(&self) -> bool {
         !self.has_leader.swap(true)
     }
 
-    /// Lets the lead go, and wakes one who may take it: whoever looked before found it taken.
+    /// Lets the lead go, and then wakes one of the candidates that sleep.
     pub(crate) fn resign(&self) {
         self.has_leader.store(false);
-        self.submitters.notify_one();
+        self.candidates.notify_one();
     }
 
     /// How many items may come for the next block.
@@ -57,6 +82,7 @@ impl Changes {
     /// Wakes all who wait.
     fn wake_all(&self) {
         self.submitters.notify_all();
+        self.candidates.notify_all();
         self.keepers.notify_all();
     }
 

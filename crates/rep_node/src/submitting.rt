@@ -117,7 +117,7 @@ impl<D: Disk> Node<D> {
         ensures stopped { IfErr result (λ refusal. (refusal ≡ Refusal.Stopped) × (seat.new.view.halted ≡ 1)) }
     {
         for _ in rt.forever() {
-            let sleep = self.changes.submitters.prepare_wait();
+            let sleep = self.changes.announced(keeps);
             let front = self.lock.front(seat);
             if front.halted {
                 return Err(Refusal::Stopped);

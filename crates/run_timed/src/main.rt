@@ -1,5 +1,5 @@
 //! What `make bench` times: versions of rows that are added and looked up, rows of pages that are read, peeks beside a publisher, and a node
-//! that serves a batch with readers beside. The first word of the command line says which.
+//! that serves a batch with readers beside. And two batches at one node. The first word of the command line says which.
 #![tactic(auto)]
 
 mod node;
@@ -17,8 +17,8 @@ use std::time::Clock;
 use words::word;
 
 /// Does what the first word of the command line names, as the words behind it say: `versions`; rows of `pages` of a file, or through a
-/// `pool`; `peeks`, or look-ups behind one lock (`locked`); a `node`; or versions, peeks and a node in turn (`each`), whose words stand one behind
-/// the other.
+/// `pool`; `peeks`, or look-ups behind one lock (`locked`); a `node`; two batches at one node (`together`); or versions, peeks and a node in
+/// turn (`each`), whose words stand one behind the other.
 fn run<
     R: Env
         + Files<File = File>
@@ -36,7 +36,7 @@ fn run<
     let _program = words.next();
     let kind = word(
         &mut words,
-        "no kind: versions, pages, pool, peeks, locked, node or each",
+        "no kind: versions, pages, pool, peeks, locked, node, together or each",
     )?;
     match kind.as_str() {
         "versions" => rows::run_versions(rt, &mut words),
@@ -45,12 +45,15 @@ fn run<
         "peeks" => peeks::run(rt, false, &mut words),
         "locked" => peeks::run(rt, true, &mut words),
         "node" => node::run(rt, &mut words),
+        "together" => node::together::run(rt, &mut words),
         "each" => {
             rows::run_versions(rt, &mut words)?;
             peeks::run(rt, false, &mut words)?;
             node::run(rt, &mut words)
         }
-        other => bail!("{other} is no kind: versions, pages, pool, peeks, locked, node or each"),
+        other => bail!(
+            "{other} is no kind: versions, pages, pool, peeks, locked, node, together or each"
+        ),
     }
 }
 

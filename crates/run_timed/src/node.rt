@@ -3,6 +3,7 @@
 mod items;
 mod readers;
 mod serving;
+pub(crate) mod together;
 mod words;
 
 ghost use Rattle.std.specs.Prelude.{◌<◌, ◌≤◌};

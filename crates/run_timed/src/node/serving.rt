@@ -1,7 +1,9 @@
 //! A node that serves the batch, with readers beside.
 
-ghost use Rattle.std.specs.Prelude.{◌≡◌, ◌<◌, ◌≤◌, true, IfOk, IsFalse, OnOk};
+ghost use Rattle.std.specs.Prelude.{◌≡◌, ◌-◌, ◌<◌, ◌≤◌, true, IfOk, IsFalse, OnOk};
 ghost use Rattle.uuid.specs.Parts.{is_nil_bytes};
+ghost use Rattle.rep_types.specs.declared.limits.TheConstants.{MAX_SEQNO};
+ghost use Rattle.rep_replica.specs.Engines.{durable_of};
 ghost use Rattle.rep_replica.specs.Replicas.{facts_of};
 ghost use Rattle.rep_replica.specs.Settling.{is_quiet};
 ghost use Rattle.rep_ordered.specs.Views.{HasAll};
@@ -12,7 +14,7 @@ use rep_disk::Disk;
 use rep_node::{Node, NodeReader, Pace, Point, Seat};
 use rep_recover::format_disk;
 use rep_replica::Replica;
-use rep_types::{Item, Refusal};
+use rep_types::{Item, Params, Refusal};
 use std::alloc::Global;
 use std::sync::Wait;
 use std::thread::Threads;
@@ -20,7 +22,7 @@ use std::time::{Clock, Duration, Instant};
 use uuid::Uuid;
 
 /// Workers go on at once.
-struct AtOnce;
+pub(crate) struct AtOnce;
 
 impl Pace for AtOnce {
     ghost lets = { λ pace point seqno. Unit {0} };
@@ -46,9 +48,13 @@ fn between(began: Option<Instant>, ended: Option<Instant>) -> Option<Duration> {
     Some(ended?.duration_since(began?))
 }
 
-/// The replica on a disk that is formatted first.
-fn new_replica<D: Disk + Drop>(alloc: Global, disk: D) -> Result<Replica<D>, Refusal> {
-    let (disk, formatted) = format_disk(disk, &params()?, Some(Uuid::from_bytes([0x11; 16])));
+/// The replica on a disk that is formatted first, with these parameters.
+pub(crate) fn new_replica<D: Disk + Drop>(
+    alloc: Global,
+    disk: D,
+    params: &Params,
+) -> Result<Replica<D>, Refusal> {
+    let (disk, formatted) = format_disk(disk, params, Some(Uuid::from_bytes([0x11; 16])));
     formatted?;
     match Replica::open(alloc, disk) {
         Ok(replica) => Ok(replica),
@@ -57,14 +63,14 @@ fn new_replica<D: Disk + Drop>(alloc: Global, disk: D) -> Result<Replica<D>, Ref
 }
 
 /// Lets a replica go. It is taken apart for that: each place where a whole one goes by itself is dear to prove.
-fn let_go<D: Disk + Drop>(replica: Replica<D>) {
+pub(crate) fn let_go<D: Disk + Drop>(replica: Replica<D>) {
     let _disk = replica.into_disk();
 }
 
 /// Brings the replica to where it has nothing left to do.
 ///
 /// Refuses as `Replica::settle` does, and with `Undefined` where the replica belongs to no cluster.
-fn settle<D: Disk>(replica: &mut Replica<D>) -> Result<(), Refusal>
+pub(crate) fn settle<D: Disk>(replica: &mut Replica<D>) -> Result<(), Refusal>
     ensures quiet { OnOk result (is_quiet (facts_of D.Disk replica.new) ≡ true) }
     ensures defined { OnOk result (IsFalse (is_nil_bytes replica.new.engine.checkpoint.base.uuid)) }
 {
@@ -76,12 +82,12 @@ fn settle<D: Disk>(replica: &mut Replica<D>) -> Result<(), Refusal>
 }
 
 /// A node with its first seat and its readers.
-type Started<D> = (Node<D>, Seat<D>, Vec<NodeReader>);
+pub(crate) type Started<D> = (Node<D>, Seat<D>, Vec<NodeReader>);
 
 /// Starts a node, with so many readers, from a replica that has nothing left to do and belongs to a cluster.
 ///
 /// Refuses as `Node::start` does.
-fn started<R: Wait, D: Disk + Drop>(
+pub(crate) fn started<R: Wait, D: Disk + Drop>(
     rt: &R,
     alloc: Global,
     replica: Replica<D>,
@@ -92,6 +98,7 @@ fn started<R: Wait, D: Disk + Drop>(
     requires readers { (0 < readers) × (readers ≤ 64) }
     ensures lock { IfOk result (λ made. made.1.lock ≡ made.0) }
     ensures all { IfOk result (λ made. HasAll made.1.view) }
+    ensures allowance { IfOk result (λ made. made.1.view.allowance ≡ MAX_SEQNO - durable_of replica.engine.log) }
 {
     match Node::start(alloc, rt, replica, readers) {
         Ok(made) => Ok(made),
@@ -168,7 +175,7 @@ pub(crate) fn serve_on<R: Clock + Threads + Wait + Sync, D: Disk + Drop + Send>(
     requires workers { (0 < workers) × (workers ≤ 64) }
     requires readers { readers ≤ 64 }
 {
-    let mut replica = new_replica(alloc, disk)?;
+    let mut replica = new_replica(alloc, disk, &params()?)?;
     match settle(&mut replica) {
         Ok(()) => serve_settled(rt, alloc, replica, items, workers, readers, watchers),
         Err(refusal) => {
