@@ -1,12 +1,13 @@
 -- How a checkpoint begins.
-use Rattle.std.proofs.Common.{◌≡◌, ℕ, Bool, true, false, List, [], ◌∷◌, ◌++◌, map, Option, None, Some, Result, Ok, Err, refl, sym, ap, ◌∙◌, ◌⊎◌, inl, inr, arith, subst}
-use Rattle.std.specs.Prelude.{MatchOption, IfErr, OnOk, not, nat_lt, nat_le, if◌then◌else◌}
+use Rattle.std.proofs.Common.{◌≡◌, ℕ, Bool, true, false, ◌<◌, List, [], ◌∷◌, ◌++◌, length, map, Option, None, Some, Result, Ok, Err, refl, sym, ap, ◌∙◌, ◌⊎◌, inl, inr, arith, subst, append-nil}
+use Rattle.std.specs.Prelude.{MatchOption, IfErr, OnOk, ◌||◌, is_some, not, nat_lt, nat_le, if◌then◌else◌}
 use Rattle.std.proofs.lemmas.Bool.Decides.{nat_tests}
 use Rattle.rep_types.proofs.Choices.{and_left, and_right}
 use Rattle.rep_types.specs.declared.judged.Judged.{Judged}
 use Rattle.rep_types.specs.declared.refusal.Refusal.{Refusal}
 use Rattle.rep_types.specs.declared.refusal.Refusal.TheVariants.{StreamFault, Stopped, OutOfMemory, NotDue}
 use Rattle.rep_disk.specs.declared.disk.Disk.{Ghosts}
+use Rattle.rep_log.specs.declared.phase.Phase.TheVariants.{Resting}
 use Rattle.rep_steps.specs.declared.event.Event.TheVariants.{Check}
 use Rattle.rep_steps.specs.declared.answer.Answer.{Answer}
 use Rattle.rep_steps.specs.declared.answer.Answer.TheVariants.{Began, Refused}
@@ -17,12 +18,12 @@ use Rattle.rep_replica.specs.Replicas.{Replica, facts_of}
 use Rattle.rep_replica.specs.Episodes.{Runs}
 use Rattle.rep_replica.specs.Holding.{IsStep}
 use Rattle.rep_replica.specs.Running.{RunsAreJoined}
-use Rattle.rep_replica.specs.Settling.{outcome_of, is_quiet}
+use Rattle.rep_replica.specs.Settling.{outcome_of}
 use Rattle.rep_follow.specs.declared.counts.Counts.{Counts}
 use Rattle.rep_follow.specs.Counting.{HasCounters}
-use Rattle.rep_follow.specs.Committing.{item_of, Follows, IsHeldUp, EndsAsAnswered, TellsAll, is_checkpoint_due, HasBegun, Begins}
-use Rattle.rep_follow.proofs.Committing.{on_ok, none_durable, follows_none, follows_run, goes_both, written_whole}
-use Rattle.rep_follow.proofs.Counting.{still_run, counted_items, risen_not}
+use Rattle.rep_follow.specs.Committing.{item_of, Follows, IsHeldUp, EndsAsAnswered, Goes, TellsNext, is_checkpoint_due, HasBegun, Begins, AndBegins, TellsAndBegins}
+use Rattle.rep_follow.proofs.Committing.{on_ok, none_durable, follows_none, follows_run, goes_both, goes_next, next_smaller, written_whole}
+use Rattle.rep_follow.proofs.Counting.{still_run, counted_items, risen_not, risen_has}
 use Rattle.std.proofs.KnownBytes.{Appends-nil}
 
 -- ---- what a due checkpoint is
@@ -33,10 +34,10 @@ off_by (Toward goal part) is = absurd cc
 off_by (Retiring written) is = absurd cc
 
 due_off : (s : Standing) → is_checkpoint_due s ≡ true → s.stage ≡ Off
-due_off s due = off_by s.stage (and_right _ (is_off s.stage) (and_left (is_quiet s) _ due))
+due_off s due = off_by s.stage (and_left (is_off s.stage) _ due)
 
 due_above : (s : Standing) → is_checkpoint_due s ≡ true → nat_le s.durable s.base ≡ false
-due_above s due = let above = and_left (nat_lt s.base s.durable) _ (and_right (is_quiet s) _ due) in grind (arith, nat_tests)
+due_above s due = let above = and_left (nat_lt s.base s.durable) _ (and_right (is_off s.stage) _ due) in grind (arith, nat_tests)
 
 -- ---- the step
 
@@ -116,27 +117,60 @@ module _ {D : Type 0} (g : Ghosts D) where
   none_judged [] none = refl
   none_judged (j ∷ judged) none = absurd cc
 
-  still_ahead : (old new : Replica D) → Follows g old new [] [] → (facts_of g old).ahead ≡ [] → (facts_of g new).ahead ≡ []
-  still_ahead old new f none = f.durable.ahead ∙ ap (λ l. l ++ f.judged) none ∙ none_judged f.judged f.are_items
+  -- what waits still does
+  begun_ahead : (old new : Replica D) → Follows g old new [] [] → (facts_of g new).ahead ≡ (facts_of g old).ahead
+  begun_ahead old new f = f.durable.ahead ∙ ap (λ l. (facts_of g old).ahead ++ l) (none_judged f.judged f.are_items) ∙ append-nil (facts_of g old).ahead
 
-  all_on : (old new : Replica D) (r : Result (Unit {0}) Refusal) → Follows g old new [] [] → (facts_of g old).ahead ≡ [] → OnOk r ((facts_of g new).ahead ≡ [])
-  all_on old new (Ok x) f none = still_ahead old new f none
-  all_on old new (Err e) f none = tt
-
-  pub tells_begun : (old mid new : Replica D) (was now : Counts) (before after : Option (List ℕ)) (x : Unit {0}) (r : Result (Unit {0}) Refusal) → HasCounters now → TellsAll g old mid was now before after (Ok x) → Begins g mid new r
-      → TellsAll g old new was now before after r
-  tells_begun old mid new was now before after x r has tells b = record {
-    goes = goes_both g old mid new [] [] was now now before after after x r tells.goes (record {
-      receipts = [];
-      follows = b.follows;
-      written = written_whole [] after after r (Appends-nil after);
-      counted = counted_items g mid b.follows.episodes [] now now b.follows.own b.follows.given b.still (risen_not now has);
-      rests = λ rests. on_ok r (b.phase ∙ rests);
-      early = begins_early mid new r b;
-    });
-    all = all_on mid new r b.follows tells.all;
-    rests = λ some. on_ok r (b.phase ∙ tells.rests some);
+  begun_goes : (old new : Replica D) (now : Counts) (text : Option (List ℕ)) (r : Result (Unit {0}) Refusal) → HasCounters now → Begins g old new r → Goes g old new [] [] now now text text r
+  begun_goes old new now text r has b = record {
+    receipts = [];
+    follows = b.follows;
+    written = written_whole [] text text r (Appends-nil text);
+    counted = counted_items g old b.follows.episodes [] now now b.follows.own b.follows.given b.still (risen_not now has);
+    rests = λ rests. on_ok r (b.phase ∙ rests);
+    early = begins_early old new r b;
   }
+
+  module _ (old new : Replica D) (was now : Counts) (before after : Option (List ℕ)) where
+    -- a block, and the checkpoint that begins behind it
+    goes_by : (mid : Replica D) (told r : Result (Unit {0}) Refusal) → TellsNext g old mid was now before after told → AndBegins g told mid new r → Goes g old new [] [] was now before after r
+    goes_by mid (Ok x) r tells begins = goes_both g old mid new [] [] [] [] was now now before after after x r (goes_next g old mid was now before after (Ok x) tells)
+        (begun_goes mid new now after r (risen_has was _ now tells.counted) begins)
+    goes_by mid (Err e) r tells begins = subst (λ (last : Replica D). Goes g old last [] [] was now before after r) (sym begins.1)
+        (subst (Goes g old mid [] [] was now before after) (sym begins.0) (goes_next g old mid was now before after (Err e) tells))
+
+    pub block_goes : (r : Result (Unit {0}) Refusal) → TellsAndBegins g old new was now before after r → Goes g old new [] [] was now before after r
+    block_goes r block = goes_by block.mid block.told r block.tells block.begins
+
+    -- where that ended well, fewer items wait, and the log is at rest
+    never_ok : (x : Unit {0}) (e : Refusal) → ◌≡◌ {A = Result (Unit {0}) Refusal} (Ok x) (Err e) → ⊥
+    never_ok x e is = cc
+
+    smaller_by : (mid : Replica D) (told : Result (Unit {0}) Refusal) (x : Unit {0}) → TellsNext g old mid was now before after told → AndBegins g told mid new (Ok x) → length (facts_of g new).ahead < length (facts_of g old).ahead
+    smaller_by mid (Ok y) x tells begins =
+        let fewer = next_smaller g old mid was now before after y tells in
+        let same = ap length (begun_ahead mid new begins.follows) in
+        omega (arith, fewer, same)
+    smaller_by mid (Err e) x tells begins = absurd (never_ok x e begins.0)
+
+    pub block_smaller : (x : Unit {0}) → TellsAndBegins g old new was now before after (Ok x) → length (facts_of g new).ahead < length (facts_of g old).ahead
+    block_smaller x block = smaller_by block.mid block.told x block.tells block.begins
+
+    rests_by : (mid : Replica D) (told : Result (Unit {0}) Refusal) (x : Unit {0}) → TellsNext g old mid was now before after told → AndBegins g told mid new (Ok x) → (facts_of g new).phase ≡ Resting
+    rests_by mid (Ok y) x tells begins = begins.phase ∙ tells.rests
+    rests_by mid (Err e) x tells begins = absurd (never_ok x e begins.0)
+
+    pub block_rests : (x : Unit {0}) → TellsAndBegins g old new was now before after (Ok x) → (facts_of g new).phase ≡ Resting
+    block_rests x block = rests_by block.mid block.told x block.tells block.begins
+
+  -- it runs where it ran, unless that was refused
+  runs_by : (mid new : Replica D) (x : Unit {0}) (so : Bool) → is_checkpoint_due (facts_of g mid) ≡ so → Begins g mid new (Ok x) → (facts_of g mid).stopped ≡ false → (facts_of g new).stopped ≡ false
+  runs_by mid new x true is b runs = ap (λ (u : Standing). u.stopped) (b.due is).1 ∙ runs
+  runs_by mid new x false is b runs = ap (λ (r : Replica D). (facts_of g r).stopped) (b.not_due is).1 ∙ runs
+
+  pub begun_runs : (mid new : Replica D) (r : Result (Unit {0}) Refusal) → Begins g mid new r → (mid.stopped || is_some mid.engine.halted) ≡ false → OnOk r ((new.stopped || is_some new.engine.halted) ≡ false)
+  begun_runs mid new (Ok x) b runs = runs_by mid new x (is_checkpoint_due (facts_of g mid)) refl b runs
+  begun_runs mid new (Err e) b runs = tt
 
   -- why none began
   why_by : (mid new : Replica D) (e : Refusal) (so : Bool) → is_checkpoint_due (facts_of g mid) ≡ so → Begins g mid new (Err e) → IsHeldUp g new e

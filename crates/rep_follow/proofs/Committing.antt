@@ -14,7 +14,6 @@ use Rattle.rep_types.specs.declared.reply.Reply.{Reply}
 use Rattle.rep_types.specs.declared.refusal.Refusal.{Refusal}
 use Rattle.rep_types.specs.Replies.{reply_of}
 use Rattle.rep_disk.specs.declared.disk.Disk.{Ghosts}
-use Rattle.rep_log.specs.declared.phase.Phase.TheVariants.{Resting}
 use Rattle.rep_steps.specs.declared.event.Event.{Event}
 use Rattle.rep_steps.specs.declared.answer.Answer.{Answer}
 use Rattle.rep_steps.specs.declared.answer.Answer.TheVariants.{Refused}
@@ -31,7 +30,7 @@ use Rattle.rep_replica.specs.Asking.{IsAsked, AsksAreGivenUp}
 use Rattle.rep_replica.specs.Committing.{Commits as CommitsBlock, HasBlock, coming}
 use Rattle.rep_follow.specs.Receipts.{receipt_line, receipt_lines}
 use Rattle.rep_follow.specs.declared.counts.Counts.{Counts}
-use Rattle.rep_follow.specs.Counting.{one_where, tally, risen_by, HasCounters, AreCounted, HasSettled}
+use Rattle.rep_follow.specs.Counting.{one_where, tally, risen_by, HasCounters, HasSettled}
 use Rattle.rep_follow.specs.Committing.{IsDurableBy, item_of, BringNothing, accepted_in, Follows, IsLastAnswer, EndsAsAnswered, Goes, Written, WrittenNext, TellsNext, TellsAll}
 use Rattle.rep_follow.proofs.Counting.{risen_not, counted_both, counted_block, counted_run, counted_items, counted_none}
 use Rattle.rep_follow.specs.Taking.{Delivers}
@@ -237,75 +236,10 @@ early_block g pages old new e c = ([], c.works.events, c.works.ends.0, new, ap (
 
 -- ---- what is told
 
--- All that became durable is told and counted, no stream has failed since, and the replica runs.
-pub record Told {D : Type 0} (g : Ghosts D) (old new : Replica D) (was now : Counts) (before after : Option (List ℕ)) (failed failing : Bool) : Type 0 where
-  pub receipts : List Reply
-  pub follows : Follows g old new [] receipts
-  pub written : Appends before after (receipt_lines receipts)
-  pub counted : AreCounted g old follows.episodes [] receipts was now
-  pub rests : (facts_of g old).phase ≡ Resting → (facts_of g new).phase ≡ Resting
-  pub block : (new ≡ old) ⊎ ((facts_of g new).phase ≡ Resting)
-  pub running : (new.stopped || is_some new.engine.halted) ≡ false
-  pub fine : failing ≡ failed
-
 pub lines_both : (first then : List Reply) → receipt_lines (first ++ then) ≡ receipt_lines first ++ receipt_lines then
 lines_both first then = flat_map-append receipt_line first then
 
 module _ {D : Type 0} (g : Ghosts D) where
-  pub told_none : (r : Replica D) (was : Counts) (text : Option (List ℕ)) (failed : Bool) → HasCounters was → (r.stopped || is_some r.engine.halted) ≡ false → Told g r r was was text text failed failed
-  told_none r was text failed has running = record { receipts = []; follows = follows_none g r; written = Appends-nil text; counted = counted_none g r was has; rests = λ rests. rests; block = inl refl; running = running; fine = refl }
-
-  module _ (old mid new : Replica D) (was between now : Counts) (before written after : Option (List ℕ)) (failed failing then : Bool) (told : Told g old mid was between before written failed failing) where
-    -- one more block
-    pub told_more : (x : Unit {0}) → TellsNext g mid new between now written after (Ok x) → (new.stopped || is_some new.engine.halted) ≡ false → then ≡ failing → Told g old new was now before after failed then
-    told_more x next running fine = record {
-      receipts = told.receipts ++ next.receipts;
-      follows = follows_both g old mid new [] [] told.receipts next.receipts told.follows next.follows;
-      written = subst (Appends before after) (sym (lines_both told.receipts next.receipts)) (Appends-trans before written after (receipt_lines told.receipts) (receipt_lines next.receipts) told.written next.written.1);
-      counted = counted_both g old mid told.follows.episodes next.follows.episodes [] [] told.receipts next.receipts was between now told.follows.own told.follows.are told.counted next.counted;
-      rests = λ rests. next.rests;
-      block = inr next.rests;
-      running = running;
-      fine = fine ∙ told.fine;
-    }
-
-    -- the next block failed
-    told_err : (e : Refusal) (next : TellsNext g mid new between now written after (Err e)) → WrittenNext next.receipts written after (Err e) → Written (told.receipts ++ next.receipts) before after (Err e)
-    told_err StreamFault next w =
-        (told.receipts, next.receipts, w.0, refl, next.few, Appends-trans before written after (receipt_lines told.receipts) (take w.0 (receipt_lines next.receipts)) told.written w.1)
-    told_err e next w =
-        let same : receipt_lines (told.receipts ++ next.receipts) ≡ receipt_lines told.receipts ++ [] = lines_both told.receipts next.receipts ∙ ap (λ rs. receipt_lines told.receipts ++ receipt_lines rs) w.0 in
-        subst (Appends before after) (sym same) (Appends-trans before written after (receipt_lines told.receipts) [] told.written w.1)
-
-    pub told_ended : (e : Refusal) → TellsNext g mid new between now written after (Err e) → TellsAll g old new was now before after (Err e)
-    told_ended e next = record {
-      goes = record {
-        receipts = told.receipts ++ next.receipts;
-        follows = follows_both g old mid new [] [] told.receipts next.receipts told.follows next.follows;
-        written = told_err e next next.written;
-        counted = counted_both g old mid told.follows.episodes next.follows.episodes [] [] told.receipts next.receipts was between now told.follows.own told.follows.are told.counted next.counted;
-        rests = λ rests. tt;
-        early = early_behind {T = Unit {0}} told.follows.episodes next.follows.episodes (Err e) next.early;
-      };
-      all = tt;
-      rests = λ some. tt;
-    }
-
-  by_block_none : (old new : Replica D) → new ≡ old → (facts_of g new).ahead ≡ [] → 0 < length (facts_of g old).ahead → ⊥
-  by_block_none old new same none some = let left = ap length (ap (λ r. (facts_of g r).ahead) (sym same) ∙ none) in omega (arith, left, some)
-
-  by_block : {old new : Replica D} → (new ≡ old) ⊎ ((facts_of g new).phase ≡ Resting) → (facts_of g new).ahead ≡ [] → 0 < length (facts_of g old).ahead → (facts_of g new).phase ≡ Resting
-  by_block {old} {new} (inl same) none some = absurd (by_block_none old new same none some)
-  by_block (inr rests) none some = rests
-
-  -- nothing waits
-  pub told_all : (old new : Replica D) (was now : Counts) (before after : Option (List ℕ)) (failed failing : Bool) (x : Unit {0}) → Told g old new was now before after failed failing → (facts_of g new).ahead ≡ [] → TellsAll g old new was now before after (Ok x)
-  told_all old new was now before after failed failing x told none = record {
-    goes = record { receipts = told.receipts; follows = told.follows; written = told.written; counted = told.counted; rests = told.rests; early = tt };
-    all = none;
-    rests = λ some. by_block told.block none some;
-  }
-
   -- a stopped replica did nothing
   pub told_stopped : (r : Replica D) (was : Counts) (text : Option (List ℕ)) → HasCounters was → TellsAll g r r was was text text (Err Stopped)
   told_stopped r was text has = record {
@@ -314,13 +248,9 @@ module _ {D : Type 0} (g : Ghosts D) where
     rests = λ some. tt;
   }
 
-  -- and one for which nothing waits
-  pub told_idle : (r : Replica D) (was : Counts) (text : Option (List ℕ)) → HasCounters was → (facts_of g r).ahead ≡ [] → TellsAll g r r was was text text (Ok tt)
-  told_idle r was text has none = record {
-    goes = record { receipts = []; follows = follows_none g r; written = Appends-nil text; counted = counted_none g r was has; rests = λ rests. rests; early = tt };
-    all = none;
-    rests = λ some. absurd (by_block_none r r refl none some);
-  }
+  pub tells_stopped : (r : Replica D) (was : Counts) (text : Option (List ℕ)) → HasCounters was → TellsNext g r r was was text text (Err Stopped)
+  tells_stopped r was text has =
+      record { receipts = []; follows = follows_none g r; few = omega arith; written = (refl, Appends-nil text); counted = counted_none g r was has; rests = tt; early = not_early Stopped (inr (inr refl)) [] }
 
   none_long : (judged : List Judged) → length judged ≤ 0 → judged ≡ []
   none_long [] few = refl
@@ -337,9 +267,16 @@ module _ {D : Type 0} (g : Ghosts D) where
       let all = is_delivered (not_from_outside r.stopped (is_some r.engine.halted) running) in
       none_long (facts_of g r).ahead (omega (arith, is_durable, all, few))
 
+  -- and where more was, something does
+  pub some_waits : (r : Replica D) (durable delivered : ℕ) → durable ≡ (facts_of g r).durable → (r.stopped ≡ false → delivered ≡ delivered_of (facts_of g r)) → (r.stopped || is_some r.engine.halted) ≡ false → durable < delivered
+      → 0 < length (facts_of g r).ahead
+  some_waits r durable delivered is_durable is_delivered running more =
+      let all = is_delivered (not_from_outside r.stopped (is_some r.engine.halted) running) in
+      omega (arith, is_durable, all, more)
+
   -- a block lessens what waits
-  pub told_smaller : (old new : Replica D) (was now : Counts) (before after : Option (List ℕ)) (x : Unit {0}) → TellsNext g old new was now before after (Ok x) → length (facts_of g new).ahead < length (facts_of g old).ahead
-  told_smaller old new was now before after x next =
+  pub next_smaller : (old new : Replica D) (was now : Counts) (before after : Option (List ℕ)) (x : Unit {0}) → TellsNext g old new was now before after (Ok x) → length (facts_of g new).ahead < length (facts_of g old).ahead
+  next_smaller old new was now before after x next =
       let d = next.follows.durable in
       let some = next.written.0 in
       let within = d.within in
@@ -371,7 +308,7 @@ module _ {D : Type 0} (g : Ghosts D) (pages : ℕ) (old new : Replica D) (was no
       record { receipts = []; follows = follows_no_block g pages old new e c; few = omega arith; written = none_written e text; counted = counted_run g pages old new was now c.works.events c.works.answers c.told is; rests = tt; early = λ early. early_block g pages old new e c }
 
   pub tells_block : (replies : List Reply) (before after : Option (List ℕ)) (r : Result (Unit {0}) Refusal) → CommitsBlock g pages old new (Ok replies)
-      → now ≡ risen_by was (tally [] replies 1 (one_where (nat_lt (facts_of g old).base (facts_of g new).base))) → OnOk r (Appends before after (receipt_lines replies))
+      → now ≡ risen_by was (tally [] [] replies 1 (one_where (nat_lt (facts_of g old).base (facts_of g new).base))) → OnOk r (Appends before after (receipt_lines replies))
       → OnErr r ((k : ℕ) × (k < length (receipt_lines replies)) × Appends before after (take k (receipt_lines replies))) → IfErr r (λ e. e ≡ StreamFault) → TellsNext g old new was now before after r
   tells_block replies before after r c is ok cut fault =
       let some = block_some (facts_of g old) (facts_of g new) replies c.block in
@@ -416,34 +353,45 @@ written_behind first then before between after (Err e) one two = subst (Appends 
 
 module _ {D : Type 0} (g : Ghosts D) where
   -- nothing was done
-  pub goes_none : (r : Replica D) (was : Counts) (text : Option (List ℕ)) (x : Result (Unit {0}) Refusal) → HasCounters was → EndsAsAnswered {D = D} [] x → Goes g r r [] was was text text x
+  pub goes_none : (r : Replica D) (was : Counts) (text : Option (List ℕ)) (x : Result (Unit {0}) Refusal) → HasCounters was → EndsAsAnswered {D = D} [] x → Goes g r r [] [] was was text text x
   goes_none r was text x has early = record { receipts = []; follows = follows_none g r; written = written_whole [] text text x (Appends-nil text); counted = counted_none g r was has; rests = λ rests. on_ok x rests; early = early }
 
+  -- the text of a line was counted
+  pub goes_text : (r : Replica D) (line : List ℕ) (was now : Counts) (text : Option (List ℕ)) → now ≡ risen_by was (tally [] (line ∷ []) [] 0 0) → Goes g r r [] (line ∷ []) was now text text (Ok tt)
+  goes_text r line was now text is = record { receipts = []; follows = follows_none g r; written = Appends-nil text; counted = is; rests = λ rests. rests; early = tt }
+
   -- the next block became durable, or not
-  pub goes_next : (old new : Replica D) (was now : Counts) (before after : Option (List ℕ)) (r : Result (Unit {0}) Refusal) → TellsNext g old new was now before after r → Goes g old new [] was now before after r
+  pub goes_next : (old new : Replica D) (was now : Counts) (before after : Option (List ℕ)) (r : Result (Unit {0}) Refusal) → TellsNext g old new was now before after r → Goes g old new [] [] was now before after r
   goes_next old new was now before after r next = record { receipts = next.receipts; follows = next.follows; written = written_next next.receipts before after r next.few next.written; counted = next.counted; rests = λ rests. next.rests; early = next.early }
 
   -- a node goes on twice
-  pub goes_both : (old mid new : Replica D) (items more : List Item) (was between now : Counts) (before written after : Option (List ℕ)) (x : Unit {0}) (r : Result (Unit {0}) Refusal)
-      → Goes g old mid items was between before written (Ok x) → Goes g mid new more between now written after r → Goes g old new (items ++ more) was now before after r
-  goes_both old mid new items more was between now before written after x r one two = record {
+  pub goes_both : (old mid new : Replica D) (items more : List Item) (lines behind : List (List ℕ)) (was between now : Counts) (before written after : Option (List ℕ)) (x : Unit {0}) (r : Result (Unit {0}) Refusal)
+      → Goes g old mid items lines was between before written (Ok x) → Goes g mid new more behind between now written after r → Goes g old new (items ++ more) (lines ++ behind) was now before after r
+  goes_both old mid new items more lines behind was between now before written after x r one two = record {
     receipts = one.receipts ++ two.receipts;
     follows = follows_both g old mid new items more one.receipts two.receipts one.follows two.follows;
     written = written_behind one.receipts two.receipts before written after r one.written two.written;
-    counted = counted_both g old mid one.follows.episodes two.follows.episodes items more one.receipts two.receipts was between now one.follows.own one.follows.are one.counted two.counted;
+    counted = counted_both g old mid one.follows.episodes two.follows.episodes items more lines behind one.receipts two.receipts was between now one.follows.own one.follows.are one.counted two.counted;
     rests = λ rests. two.rests (one.rests rests);
     early = early_behind one.follows.episodes two.follows.episodes r two.early;
   }
 
+  -- nothing is delivered after it
+  pub goes_on : (old mid new : Replica D) (items : List Item) (lines : List (List ℕ)) (was between now : Counts) (before written after : Option (List ℕ)) (r : Result (Unit {0}) Refusal)
+      → Goes g old mid items lines was between before written (Ok tt) → Goes g mid new [] [] between now written after r → Goes g old new items lines was now before after r
+  goes_on old mid new items lines was between now before written after r one two =
+      subst (λ (ls : List (List ℕ)). Goes g old new items ls was now before after r) (append-nil lines)
+      (subst (λ (is : List Item). Goes g old new is (lines ++ []) was now before after r) (append-nil items) (goes_both old mid new items [] lines [] was between now before written after tt r one two))
+
   -- with a refusal that is no step's
-  pub goes_refused : (old new : Replica D) (items : List Item) (was now : Counts) (before after : Option (List ℕ)) (x : Unit {0}) (r : Result (Unit {0}) Refusal) → ((es : List (Episode D)) → EndsAsAnswered es r)
-      → Goes g old new items was now before after (Ok x) → Goes g old new items was now before after r
-  goes_refused old new items was now before after x r early goes =
+  pub goes_refused : (old new : Replica D) (items : List Item) (lines : List (List ℕ)) (was now : Counts) (before after : Option (List ℕ)) (x : Unit {0}) (r : Result (Unit {0}) Refusal) → ((es : List (Episode D)) → EndsAsAnswered es r)
+      → Goes g old new items lines was now before after (Ok x) → Goes g old new items lines was now before after r
+  goes_refused old new items lines was now before after x r early goes =
       record { receipts = goes.receipts; follows = goes.follows; written = written_whole goes.receipts before after r goes.written; counted = goes.counted; rests = λ rests. on_ok r (goes.rests rests); early = early goes.follows.episodes }
 
 module _ {D : Type 0} (g : Ghosts D) (old new : Replica D) (i : Item) (was : Counts) where
   -- an item is taken, and nothing is told
-  pub goes_item : (now : Counts) (text : Option (List ℕ)) (d : Delivers g old new i (Ok tt)) → now ≡ risen_by was (tally (i ∷ []) [] 0 0) → Goes g old new (i ∷ []) was now text text (Ok tt)
+  pub goes_item : (now : Counts) (text : Option (List ℕ)) (d : Delivers g old new i (Ok tt)) → now ≡ risen_by was (tally (i ∷ []) [] [] 0 0) → Goes g old new (i ∷ []) [] was now text text (Ok tt)
   goes_item now text d is = record {
     receipts = [];
     follows = d.follows;
@@ -454,7 +402,7 @@ module _ {D : Type 0} (g : Ghosts D) (old new : Replica D) (i : Item) (was : Cou
   }
 
   -- it is refused
-  pub goes_no_item : (text : Option (List ℕ)) (e : Refusal) (d : Delivers g old new i (Err e)) → HasCounters was → Goes g old new [] was was text text (Err e)
+  pub goes_no_item : (text : Option (List ℕ)) (e : Refusal) (d : Delivers g old new i (Err e)) → HasCounters was → Goes g old new [] [] was was text text (Err e)
   goes_no_item text e d has = record {
     receipts = [];
     follows = d.follows;

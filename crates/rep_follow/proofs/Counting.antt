@@ -10,6 +10,7 @@ use Rattle.rep_types.specs.declared.verdict.Verdict.{Verdict}
 use Rattle.rep_types.specs.declared.refusal.Refusal.{Refusal}
 use Rattle.rep_types.specs.Replies.{reply_of}
 use Rattle.rep_types.specs.Order.{is_commit}
+use Rattle.rep_requests.specs.Requests.{is_unreadable}
 use Rattle.rep_disk.specs.declared.disk.Disk.{Ghosts}
 use Rattle.rep_log.specs.declared.phase.Phase.{Phase}
 use Rattle.rep_log.specs.declared.phase.Phase.TheVariants.{Resting, Closing, Filling, Filled, Opening}
@@ -25,7 +26,7 @@ use Rattle.rep_replica.specs.Settling.{Allows}
 use Rattle.rep_replica.specs.Committing.{Commits as CommitsBlock}
 use Rattle.rep_replica.specs.Episodes.{Episode, Runs, GivesUp, Brings, Breaks, AreEpisodes, replies_of}
 use Rattle.rep_follow.specs.declared.counts.Counts.{Counts}
-use Rattle.rep_follow.specs.Counting.{is_no_effect, told_of, is_conflict, is_stale, is_future, is_bad_key, is_block, blocks_in, one_where, checkpoints_in, tally, risen, risen_by, HasCounters, AreCounted, HasSettled}
+use Rattle.rep_follow.specs.Counting.{told_of, is_conflict, is_stale, is_future, is_bad_key, is_block, blocks_in, one_where, checkpoints_in, tally, risen, risen_by, HasCounters, AreCounted, HasSettled}
 use Rattle.rep_follow.specs.Committing.{BringNothing}
 
 -- ---- the counters
@@ -40,13 +41,13 @@ told_both : (is : Verdict → Bool) (first then : List Reply) → told_of is (fi
 told_both is first then = sum_by-append (λ (r : Reply). cond (is r.verdict) 1 0) first then
 
 -- to count twice is to count both together
-pub risen_both : (was : Counts) (items more : List Item) (first then : List Reply) (b c d e blocks checkpoints : ℕ) → blocks ≡ b + c → checkpoints ≡ d + e
-    → risen_by (risen_by was (tally items first b d)) (tally more then c e) ≡ risen_by was (tally (items ++ more) (first ++ then) blocks checkpoints)
-risen_both was items more first then b c d e blocks checkpoints bs cs =
+pub risen_both : (was : Counts) (items more : List Item) (lines behind : List (List ℕ)) (first then : List Reply) (b c d e blocks checkpoints : ℕ) → blocks ≡ b + c → checkpoints ≡ d + e
+    → risen_by (risen_by was (tally items lines first b d)) (tally more behind then c e) ≡ risen_by was (tally (items ++ more) (lines ++ behind) (first ++ then) blocks checkpoints)
+risen_both was items more lines behind first then b c d e blocks checkpoints bs cs =
     let is_items = risen_twice was.items (length items) (length more) (length (items ++ more)) (length-append items more) in
     let is_blocks = risen_twice was.blocks b c blocks bs in
     let is_checkpoints = risen_twice was.checkpoints d e checkpoints cs in
-    let is_unreadable = risen_twice was.unreadable (count_by is_no_effect items) (count_by is_no_effect more) (count_by is_no_effect (items ++ more)) (sum_by-append (λ (i : Item). cond (is_no_effect i) 1 0) items more) in
+    let is_unreadable = risen_twice was.unreadable (count_by is_unreadable lines) (count_by is_unreadable behind) (count_by is_unreadable (lines ++ behind)) (sum_by-append (λ (l : List ℕ). cond (is_unreadable l) 1 0) lines behind) in
     let is_commits = risen_twice was.commit (told_of is_commit first) (told_of is_commit then) (told_of is_commit (first ++ then)) (told_both is_commit first then) in
     let is_conflicts = risen_twice was.conflict (told_of is_conflict first) (told_of is_conflict then) (told_of is_conflict (first ++ then)) (told_both is_conflict first then) in
     let is_stales = risen_twice was.stale (told_of is_stale first) (told_of is_stale then) (told_of is_stale (first ++ then)) (told_both is_stale first then) in
@@ -55,7 +56,7 @@ risen_both was items more first then b c d e blocks checkpoints bs cs =
     cc
 
 -- where nothing came, nothing rises
-pub risen_not : (was : Counts) → HasCounters was → was ≡ risen_by was (tally [] [] 0 0)
+pub risen_not : (was : Counts) → HasCounters was → was ≡ risen_by was (tally [] [] [] 0 0)
 risen_not was has =
     let is_items = risen_none was.items has.items in
     let is_blocks = risen_none was.blocks has.blocks in
@@ -67,8 +68,33 @@ risen_not was has =
     let is_futures = risen_none was.future has.future in
     let is_bad_keys = risen_none was.badkey has.badkey in
     let whole : ◌≡◌ {A = Counts} (record { items = was.items; blocks = was.blocks; checkpoints = was.checkpoints; commit = was.commit; conflict = was.conflict; stale = was.stale; future = was.future; badkey = was.badkey; unreadable = was.unreadable })
-    (risen_by was (tally [] [] 0 0)) = cc in
+    (risen_by was (tally [] [] [] 0 0)) = cc in
     whole
+
+-- each counter that rose has 64 bits
+risen_below : (x m : ℕ) → risen x m < 2 ^ 64
+risen_below x m = omega arith
+
+pub risen_has : (was more now : Counts) → now ≡ risen_by was more → HasCounters now
+risen_has was more now is = subst HasCounters (sym is) (record {
+  items = risen_below was.items more.items;
+  blocks = risen_below was.blocks more.blocks;
+  checkpoints = risen_below was.checkpoints more.checkpoints;
+  commit = risen_below was.commit more.commit;
+  conflict = risen_below was.conflict more.conflict;
+  stale = risen_below was.stale more.stale;
+  future = risen_below was.future more.future;
+  badkey = risen_below was.badkey more.badkey;
+  unreadable = risen_below was.unreadable more.unreadable;
+})
+
+-- the text of a line
+one_text : (line : List ℕ) → one_where (is_unreadable line) ≡ count_by is_unreadable (line ∷ [])
+one_text line = let count = sum_by-cons (λ (l : List ℕ). cond (is_unreadable l) 1 0) line [] in omega (arith, count)
+
+pub counted_text : (was now more : Counts) (line : List ℕ) (so : Bool) → now ≡ risen_by was more → more ≡ record (tally [] [] [] 0 0) { unreadable = one_where so } → so ≡ is_unreadable line → now ≡ risen_by was (tally [] (line ∷ []) [] 0 0)
+counted_text was now more line so risen is same =
+    risen ∙ ap (risen_by was) (is ∙ ap (λ (b : Bool). record (tally [] [] [] 0 0) { unreadable = one_where b }) same ∙ ap (λ (n : ℕ). record (tally [] [] [] 0 0) { unreadable = n }) (one_text line))
 
 -- ---- episodes
 
@@ -94,11 +120,11 @@ module _ {D : Type 0} (g : Ghosts D) where
   checkpoints_both from mid (Breaks uuid y to ∷ es) fs own are = absurd own
 
   -- what is counted of parts behind parts
-  pub counted_both : (from mid : Replica D) (es fs : List (Episode D)) (items more : List Item) (first then : List Reply) (was between now : Counts) → BringNothing es → AreEpisodes g from es mid
-      → AreCounted g from es items first was between → AreCounted g mid fs more then between now → AreCounted g from (es ++ fs) (items ++ more) (first ++ then) was now
-  counted_both from mid es fs items more first then was between now own are one two =
-      two ∙ ap (λ c. risen_by c (tally more then (blocks_in fs) (checkpoints_in g mid fs))) one
-      ∙ risen_both was items more first then (blocks_in es) (blocks_in fs) (checkpoints_in g from es) (checkpoints_in g mid fs) (blocks_in (es ++ fs)) (checkpoints_in g from (es ++ fs)) (blocks_both es fs) (checkpoints_both from mid es fs own are)
+  pub counted_both : (from mid : Replica D) (es fs : List (Episode D)) (items more : List Item) (lines behind : List (List ℕ)) (first then : List Reply) (was between now : Counts) → BringNothing es → AreEpisodes g from es mid
+      → AreCounted g from es items lines first was between → AreCounted g mid fs more behind then between now → AreCounted g from (es ++ fs) (items ++ more) (lines ++ behind) (first ++ then) was now
+  counted_both from mid es fs items more lines behind first then was between now own are one two =
+      two ∙ ap (λ c. risen_by c (tally more behind then (blocks_in fs) (checkpoints_in g mid fs))) one
+      ∙ risen_both was items more lines behind first then (blocks_in es) (blocks_in fs) (checkpoints_in g from es) (checkpoints_in g mid fs) (blocks_in (es ++ fs)) (checkpoints_in g from (es ++ fs)) (blocks_both es fs) (checkpoints_both from mid es fs own are)
 
   -- a run that leaves the base ends no checkpoint
   still_one : (b c : ℕ) → c ≡ b → one_where (nat_lt b c) ≡ 0
@@ -202,8 +228,8 @@ answers_some (a ∷ answers) some = one_some a answers (answer_some a (acknowled
 
 module _ {D : Type 0} (g : Ghosts D) (pages : ℕ) (old new : Replica D) (was now : Counts) where
   -- a block, with its receipts
-  pub counted_block : (replies : List Reply) (c : CommitsBlock g pages old new (Ok replies)) → 0 < length replies → now ≡ risen_by was (tally [] replies 1 (one_where (nat_lt (facts_of g old).base (facts_of g new).base)))
-      → AreCounted g old (Runs c.works.events c.works.answers new ∷ []) [] replies was now
+  pub counted_block : (replies : List Reply) (c : CommitsBlock g pages old new (Ok replies)) → 0 < length replies → now ≡ risen_by was (tally [] [] replies 1 (one_where (nat_lt (facts_of g old).base (facts_of g new).base)))
+      → AreCounted g old (Runs c.works.events c.works.answers new ∷ []) [] [] replies was now
   counted_block replies c some is =
       let most = run_blocks _ (facts_of g old) (facts_of g new) c.works.events c.works.answers c.works.moves in
       let least = answers_some c.works.answers (subst (λ (rs : List Reply). 0 < length rs) (sym c.told) some) in
@@ -211,16 +237,16 @@ module _ {D : Type 0} (g : Ghosts D) (pages : ℕ) (old new : Replica D) (was no
       let one : 1 ≡ count_by is_block c.works.answers + 0 = omega (arith, most, least, next) in
       let base = one_where (nat_lt (facts_of g old).base (facts_of g new).base) in
       let same : base ≡ base + 0 = omega arith in
-      is ∙ ap (λ n. risen_by was (tally [] replies n base)) one ∙ ap (λ n. risen_by was (tally [] replies (count_by is_block c.works.answers + 0) n)) same
+      is ∙ ap (λ n. risen_by was (tally [] [] replies n base)) one ∙ ap (λ n. risen_by was (tally [] [] replies (count_by is_block c.works.answers + 0) n)) same
 
   -- none
-  pub counted_run : (events : List Event) (answers : List Answer) → acknowledged answers ≡ [] → HasSettled g old new was now → AreCounted g old (Runs events answers new ∷ []) [] [] was now
+  pub counted_run : (events : List Event) (answers : List Answer) → acknowledged answers ≡ [] → HasSettled g old new was now → AreCounted g old (Runs events answers new ∷ []) [] [] [] was now
   counted_run events answers told is =
       let none = answers_none answers told in
       let zero_is : 0 ≡ count_by is_block answers + 0 = omega (arith, none) in
       let base = one_where (nat_lt (facts_of g old).base (facts_of g new).base) in
       let same : base ≡ base + 0 = omega arith in
-      is ∙ ap (λ n. risen_by was (tally [] [] n base)) zero_is ∙ ap (λ n. risen_by was (tally [] [] (count_by is_block answers + 0) n)) same
+      is ∙ ap (λ n. risen_by was (tally [] [] [] n base)) zero_is ∙ ap (λ n. risen_by was (tally [] [] [] (count_by is_block answers + 0) n)) same
 
 -- ---- what is counted of no block
 
@@ -237,10 +263,10 @@ blocks_none (Breaks uuid y to ∷ es) own none = absurd own
 
 -- items alone
 pub counted_items : {D : Type 0} (g : Ghosts D) (from : Replica D) (es : List (Episode D)) (items : List Item) (was now : Counts) → BringNothing es → replies_of es ≡ [] → checkpoints_in g from es ≡ 0
-    → now ≡ risen_by was (tally items [] 0 0) → AreCounted g from es items [] was now
+    → now ≡ risen_by was (tally items [] [] 0 0) → AreCounted g from es items [] [] was now
 counted_items g from es items was now own none still is =
-    is ∙ ap (λ n. risen_by was (tally items [] n 0)) (sym (blocks_none es own none)) ∙ ap (λ n. risen_by was (tally items [] (blocks_in es) n)) (sym still)
+    is ∙ ap (λ n. risen_by was (tally items [] [] n 0)) (sym (blocks_none es own none)) ∙ ap (λ n. risen_by was (tally items [] [] (blocks_in es) n)) (sym still)
 
 -- nothing
-pub counted_none : {D : Type 0} (g : Ghosts D) (from : Replica D) (was : Counts) → HasCounters was → AreCounted g from [] [] [] was was
+pub counted_none : {D : Type 0} (g : Ghosts D) (from : Replica D) (was : Counts) → HasCounters was → AreCounted g from [] [] [] [] was was
 counted_none g from was has = risen_not was has

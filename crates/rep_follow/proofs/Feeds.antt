@@ -12,10 +12,10 @@ use Rattle.rep_lines.specs.Feeds.{ahead}
 use Rattle.rep_requests.specs.Requests.{requested}
 use Rattle.rep_replica.specs.Replicas.{Replica}
 use Rattle.rep_follow.specs.declared.counts.Counts.{Counts}
-use Rattle.rep_follow.specs.Counting.{HasCounters}
+use Rattle.rep_follow.specs.Counting.{HasCounters, tally, risen_by}
 use Rattle.rep_follow.specs.Committing.{Goes}
 use Rattle.rep_follow.specs.Taking.{item_at, AreItems, text_of, TakesLines, IsNotTaken}
-use Rattle.rep_follow.proofs.Committing.{goes_none, goes_both, goes_refused, not_early}
+use Rattle.rep_follow.proofs.Committing.{goes_none, goes_both, goes_on, goes_text, goes_refused, not_early}
 
 -- ---- line by line
 
@@ -36,7 +36,7 @@ pub record Taken {D : Type 0} (g : Ghosts D) (first : ℕ) (old new : Replica D)
   pub are : AreItems first lines items
   pub next_is : next ≡ first + length items
   pub handed : (rest : Option (List ℕ)) → Consumes (ahead held rest) (ahead left rest) (text_of lines)
-  pub goes : Goes g old new items was now before after (Ok tt)
+  pub goes : Goes g old new items lines was now before after (Ok tt)
 
 module _ {D : Type 0} (g : Ghosts D) where
   pub taken_none : (r : Replica D) (was : Counts) (held : List ℕ) (text : Option (List ℕ)) (next : ℕ) → HasCounters was → Taken g next r r was was held held text text next
@@ -56,14 +56,15 @@ module _ {D : Type 0} (g : Ghosts D) where
         (Consumes-trans (ahead held rest) (ahead left rest) (ahead then rest) (text_of taken.lines) (line ++ 10 ∷ []) (taken.handed rest) (handed rest))
 
     -- one more was taken
-    pub taken_more : (i : Item) (x : Unit {0}) → item_at next (requested 0 line) ≡ Some i → Goes g mid new (i ∷ []) between now written after (Ok x) → Taken g first old new was now held then before after (next + 1)
-    taken_more i x at goes = record {
+    pub taken_more : (i : Item) (counted : Counts) (x : Unit {0}) → item_at next (requested 0 line) ≡ Some i → Goes g mid new (i ∷ []) [] between counted written after (Ok x) → now ≡ risen_by counted (tally [] (line ∷ []) [] 0 0) → Taken g first old new was now held then before after (next + 1)
+    taken_more i counted x at goes text = record {
       lines = taken.lines ++ line ∷ [];
       items = taken.items ++ i ∷ [];
       are = are_items_more first next taken.lines taken.items line i taken.are taken.next_is at;
       next_is = omega (arith, taken.next_is, length-append taken.items (i ∷ []));
       handed = handed_more;
-      goes = goes_both g old mid new taken.items (i ∷ []) was between now before written after tt (Ok tt) taken.goes goes;
+      goes = goes_both g old mid new taken.items (i ∷ []) taken.lines (line ∷ []) was between now before written after tt (Ok tt) taken.goes
+          (goes_both g mid new new (i ∷ []) [] [] (line ∷ []) between counted now written after after x (Ok tt) goes (goes_text g new line counted now after text));
     }
 
     -- it is no next item
@@ -78,19 +79,19 @@ module _ {D : Type 0} (g : Ghosts D) where
       are = taken.are;
       next_is = taken.next_is;
       handed = handed_more;
-      goes = goes_refused g old mid taken.items was between before written tt (Err Exhausted) (not_early Exhausted (inr (inl refl))) taken.goes;
+      goes = goes_refused g old mid taken.items taken.lines was between before written tt (Err Exhausted) (not_early Exhausted (inr (inl refl))) taken.goes;
       ends = (i, at, inl (refl, last));
     }
 
     -- it was refused
-    pub taken_refused : (i : Item) (e : Refusal) → item_at next (requested 0 line) ≡ Some i → IsNotTaken g new next i e → Goes g mid new [] between now written after (Err e) → TakesLines g first old new was now held then line before after (Err e) next
+    pub taken_refused : (i : Item) (e : Refusal) → item_at next (requested 0 line) ≡ Some i → IsNotTaken g new next i e → Goes g mid new [] [] between now written after (Err e) → TakesLines g first old new was now held then line before after (Err e) next
     taken_refused i e at why goes = record {
       lines = taken.lines;
       items = taken.items;
       are = taken.are;
       next_is = taken.next_is;
       handed = handed_more;
-      goes = subst (λ (is : List Item). Goes g old new is was now before after (Err e)) (append-nil taken.items) (goes_both g old mid new taken.items [] was between now before written after tt (Err e) taken.goes goes);
+      goes = goes_on g old mid new taken.items taken.lines was between now before written after (Err e) taken.goes goes;
       ends = (i, at, inr why);
     }
 

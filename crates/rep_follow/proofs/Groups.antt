@@ -1,5 +1,5 @@
 -- Groups of items one after another.
-use Rattle.std.proofs.Common.{◌≡◌, ◌⊎◌, inl, inr, ℕ, ◌+◌, ◌-◌, ◌^◌, ◌≤◌, false, true, List, [], ◌∷◌, ◌++◌, length, Option, None, Some, Result, Ok, Err, refl, sym, ap, ◌∙◌, arith, subst, append_assoc, append-nil, length-append}
+use Rattle.std.proofs.Common.{◌≡◌, ◌⊎◌, inl, inr, ℕ, ◌+◌, ◌-◌, ◌^◌, ◌≤◌, false, true, List, [], ◌∷◌, ◌++◌, length, Option, None, Some, Result, Ok, Err, refl, sym, ap, ◌∙◌, arith, subst, append_assoc, length-append}
 use Rattle.std.specs.Io.KnownBytes.{Keeps, Consumes, IsAtEnd}
 use Rattle.std.proofs.KnownBytes.{Consumes-nil, Consumes-trans, Consumes-kept}
 use Rattle.std.proofs.lemmas.List.Concat.{flat_map-append}
@@ -17,7 +17,7 @@ use Rattle.rep_follow.specs.Counting.{HasCounters}
 use Rattle.rep_follow.specs.Committing.{Goes, IsHeldUp}
 use Rattle.rep_follow.specs.Taking.{AreItems, text_of, TakesLines}
 use Rattle.rep_follow.specs.Following.{went, HandedOut, EndsAt, HasRead, IsNotFollowed, FollowsItems}
-use Rattle.rep_follow.proofs.Committing.{goes_none, goes_both, goes_refused, not_early}
+use Rattle.rep_follow.proofs.Committing.{goes_none, goes_both, goes_on, goes_refused, not_early}
 
 -- items behind items
 are_items_both : (first next : ℕ) (lines more : List (List ℕ)) (items then : List Item) → AreItems first lines items → next ≡ first + length items → AreItems next more then → AreItems first (lines ++ more) (items ++ then)
@@ -36,7 +36,7 @@ pub record Took {D : Type 0} (g : Ghosts D) (first : ℕ) (old new : Replica D) 
   pub are : AreItems first lines items
   pub next_is : next ≡ first + length items
   pub handed : Consumes text behind (text_of lines)
-  pub goes : Goes g old new items was now before after (Ok tt)
+  pub goes : Goes g old new items lines was now before after (Ok tt)
   pub read : HasRead turns asked rest
 
 -- what was read, behind what was read before
@@ -72,12 +72,6 @@ module _ {D : Type 0} (g : Ghosts D) where
   pub took_none : (r : Replica D) (was : Counts) (asked text written : Option (List ℕ)) (next : ℕ) → HasCounters was → Took g next r r was was 0 asked asked text text written written next
   took_none r was asked text written next has = record { lines = []; items = []; are = tt; next_is = omega arith; handed = Consumes-nil text; goes = goes_none g r was written (Ok tt) has tt; read = ([], omega arith, Consumes-nil asked) }
 
-  -- nothing is delivered behind it
-  goes_on : (old mid new : Replica D) (items : List Item) (was between now : Counts) (before written after : Option (List ℕ)) (r : Result (Unit {0}) Refusal) → Goes g old mid items was between before written (Ok tt) → Goes g mid new [] between now written after r
-      → Goes g old new items was now before after r
-  goes_on old mid new items was between now before written after r one two =
-      subst (λ (is : List Item). Goes g old new is was now before after r) (append-nil items) (goes_both g old mid new items [] was between now before written after tt r one two)
-
   module _ (first next then turns : ℕ) (old mid new : Replica D) (was between now : Counts) (left : List ℕ) (begun asked rest text middle behind : Option (List ℕ)) (last : List ℕ) (before written after : Option (List ℕ)) (took : Took g first old mid was between turns begun asked text middle before written next) where
     pub follows_behind : (r : Result (Option End) Refusal) → FollowsItems g next mid new between now left asked rest middle behind last written after r then → FollowsItems g first old new was now left begun rest text behind last before after r then
     follows_behind r f = record {
@@ -88,7 +82,7 @@ module _ {D : Type 0} (g : Ghosts D) where
       out = took.lines ++ f.out;
       out_is = out_behind took.lines f.lines last f.out r f.out_is;
       handed = subst (Consumes text behind) (sym (text_both took.lines f.out)) (Consumes-trans text middle behind (text_of took.lines) (text_of f.out) took.handed f.handed);
-      goes = goes_both g old mid new took.items f.items was between now before written after tt (went r) took.goes f.goes;
+      goes = goes_both g old mid new took.items f.items took.lines f.lines was between now before written after tt (went r) took.goes f.goes;
       ends = ends_behind turns then new left begun asked rest took.lines f.lines last f.out r took.read f.ends;
     }
 
@@ -109,7 +103,7 @@ module _ {D : Type 0} (g : Ghosts D) where
     out = took.lines;
     out_is = inl refl;
     handed = took.handed;
-    goes = goes_refused g old new took.items was now before after tt (Err Exhausted) (not_early Exhausted (inr (inl refl))) took.goes;
+    goes = goes_refused g old new took.items took.lines was now before after tt (Err Exhausted) (not_early Exhausted (inr (inl refl))) took.goes;
     ends = inr (refl, inr (inr (refl, read_less turns (2 ^ 64 - 1) asked rest many took.read)));
   }
 
@@ -125,7 +119,7 @@ module _ {D : Type 0} (g : Ghosts D) where
 
     module _ (taken : TakesLines g first old mid was between held left last before written (Ok false) next) (new : Replica D) (now : Counts) (after : Option (List ℕ)) where
       -- what was taken did not become durable
-      pub group_kept : (rest : Option (List ℕ)) (e : Refusal) → (e ≡ StreamFault) ⊎ IsHeldUp g new e → Goes g mid new [] between now written after (Err e)
+      pub group_kept : (rest : Option (List ℕ)) (e : Refusal) → (e ≡ StreamFault) ⊎ IsHeldUp g new e → Goes g mid new [] [] between now written after (Err e)
           → FollowsItems g first old new was now left rest rest (ahead held rest) (ahead left rest) last before after (Err e) next
       group_kept rest e why goes = record {
         lines = taken.lines;
@@ -135,7 +129,7 @@ module _ {D : Type 0} (g : Ghosts D) where
         out = taken.lines;
         out_is = inl refl;
         handed = taken.handed rest;
-        goes = goes_on old mid new taken.items was between now before written after (Err e) taken.goes goes;
+        goes = goes_on g old mid new taken.items taken.lines was between now before written after (Err e) taken.goes goes;
         ends = inr (refl, kept_why why);
       }
         where
@@ -143,9 +137,9 @@ module _ {D : Type 0} (g : Ghosts D) where
           kept_why (inl is) = inl is
           kept_why (inr is) = inr (inl is)
 
-      module _ (goes : Goes g mid new [] between now written after (Ok tt)) (all : (facts_of g new).ahead ≡ []) (then : List ℕ) (rest rest' : Option (List ℕ)) (kept : Keeps (ahead left rest) (ahead then rest')) where
-        whole : Goes g old new taken.items was now before after (Ok tt)
-        whole = goes_on old mid new taken.items was between now before written after (Ok tt) taken.goes goes
+      module _ (goes : Goes g mid new [] [] between now written after (Ok tt)) (all : (facts_of g new).ahead ≡ []) (then : List ℕ) (rest rest' : Option (List ℕ)) (kept : Keeps (ahead left rest) (ahead then rest')) where
+        whole : Goes g old new taken.items taken.lines was now before after (Ok tt)
+        whole = goes_on g old mid new taken.items taken.lines was between now before written after (Ok tt) taken.goes goes
 
         handed : Consumes (ahead held rest) (ahead then rest') (text_of taken.lines)
         handed = Consumes-kept (ahead held rest) (ahead left rest) (ahead then rest') (text_of taken.lines) (taken.handed rest) kept
@@ -160,7 +154,7 @@ module _ {D : Type 0} (g : Ghosts D) where
           out = taken.lines;
           out_is = inl refl;
           handed = handed;
-          goes = goes_refused g old new taken.items was now before after tt (Err e) (not_early e (inl is)) whole;
+          goes = goes_refused g old new taken.items taken.lines was now before after tt (Err e) (not_early e (inl is)) whole;
           ends = inr (refl, inl is);
         }
 

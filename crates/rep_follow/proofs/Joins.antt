@@ -65,7 +65,7 @@ module _ {D : Type 0} (g : Ghosts D) where
     follows_read = follows_run g old new (Read key position ∷ []) (a ∷ []) [] [] [] refl (joined.one_run old new (Read key position) a step) refl stays.none refl
         (none_durable (facts_of g old) (facts_of g new) stays.durable stays.ahead)
 
-    pub goes_read : (counts : Counts) (text : Option (List ℕ)) → HasCounters counts → Goes g old new [] counts counts text text (Ok tt)
+    pub goes_read : (counts : Counts) (text : Option (List ℕ)) → HasCounters counts → Goes g old new [] [] counts counts text text (Ok tt)
     goes_read counts text has = record {
       receipts = [];
       follows = follows_read;
@@ -84,7 +84,7 @@ module _ {D : Type 0} (g : Ghosts D) where
       by_halt (inl same) = ap (phase_at old.engine.log.phase) same
       by_halt (inr halts) = ap (phase_at old.engine.log.phase) halts.1 ∙ sym (ap (phase_at old.engine.log.phase) halts.0)
 
-  pub goes_asked : AsksAreGivenUp g → (old new : Replica D) (counts : Counts) (text : Option (List ℕ)) → HasCounters counts → IsAsked g old new → Goes g old new [] counts counts text text (Ok tt)
+  pub goes_asked : AsksAreGivenUp g → (old new : Replica D) (counts : Counts) (text : Option (List ℕ)) → HasCounters counts → IsAsked g old new → Goes g old new [] [] counts counts text text (Ok tt)
   goes_asked given_up old new counts text has asked =
       let follows = follows_ask g given_up old new asked in
       record {

@@ -1,4 +1,5 @@
 pub mod Beginning
+pub mod Telling
 pub mod Committing
 pub mod Counting
 pub mod Deliveries
@@ -9,5 +10,6 @@ pub mod Noting
 pub mod Parts
 pub mod Settled
 pub mod Stops
+pub mod Rooms
 pub mod Followers
 pub mod Asked

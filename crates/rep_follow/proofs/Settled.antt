@@ -131,7 +131,7 @@ module _ {D : Type 0} (g : Ghosts D) where
       let rests = rests_by old mid was between before after x tells waits in
       let idles = run_idle (facts_of g mid) (facts_of g new) w.events w.answers w.moves tells.all rests in
       record {
-        goes = goes_both g old mid new [] [] was between now before after after x r tells.goes (record {
+        goes = goes_both g old mid new [] [] [] [] was between now before after after x r tells.goes (record {
           receipts = [];
           follows = follows_run g mid new w.events w.answers [] [] [] (runs_paired (IsStep g) mid new w.events w.answers w.steps) w.ran (own_none w.events w.answers w.own) idles.none refl
               (none_durable (facts_of g mid) (facts_of g new) idles.durable idles.ahead);

@@ -13,10 +13,11 @@ use Rattle.rep_steps.specs.declared.event.Event.{Event}
 use Rattle.rep_steps.specs.declared.answer.Answer.{Answer}
 use Rattle.rep_steps.specs.declared.answer.Answer.TheVariants.{Refused}
 use Rattle.rep_steps.specs.Standings.{Standing, Flushing, Toward}
+use Rattle.rep_steps.specs.Moves.{is_off}
 use Rattle.rep_steps.specs.Runs.{accepted_by}
 use Rattle.rep_replica.specs.Replicas.{Replica, facts_of}
 use Rattle.rep_replica.specs.Episodes.{Episode, Runs, GivesUp, Brings, Breaks, AreEpisodes, replies_of}
-use Rattle.rep_replica.specs.Settling.{EndsEarly, is_quiet}
+use Rattle.rep_replica.specs.Settling.{EndsEarly}
 use Rattle.rep_follow.specs.declared.counts.Counts.{Counts}
 use Rattle.rep_follow.specs.Receipts.{receipt_lines}
 use Rattle.rep_follow.specs.Counting.{AreCounted, checkpoints_in}
@@ -79,13 +80,13 @@ Written receipts before after (Err StreamFault) =
 Written receipts before after result = Appends before after (receipt_lines receipts)
 
 -- The node went on: these items were delivered, and what became durable was told. So a receipt is written of a durable item alone; and all but a
--- part of the last block's are written, where the writer failed. The counters rose by what was done. Where it ended well, a log that was at rest is
+-- part of the last block's are written, where the writer failed. The counters rose by what was done, of these lines by each whose text is no item. Where it ended well, a log that was at rest is
 -- at rest again; and a refusal of a step is the last answer.
-pub record Goes {D : Type 0} (g : Ghosts D) (old new : Replica D) (items : List Item) (was now : Counts) (before after : Option (List ℕ)) (result : Result (Unit {0}) Refusal) : Type 0 where
+pub record Goes {D : Type 0} (g : Ghosts D) (old new : Replica D) (items : List Item) (lines : List (List ℕ)) (was now : Counts) (before after : Option (List ℕ)) (result : Result (Unit {0}) Refusal) : Type 0 where
   pub receipts : List Reply
   pub follows : Follows g old new items receipts
   pub written : Written receipts before after result
-  pub counted : AreCounted g old follows.episodes items receipts was now
+  pub counted : AreCounted g old follows.episodes items lines receipts was now
   pub rests : (facts_of g old).phase ≡ Resting → OnOk result ((facts_of g new).phase ≡ Resting)
   pub early : EndsAsAnswered follows.episodes result
 
@@ -101,23 +102,23 @@ pub record TellsNext {D : Type 0} (g : Ghosts D) (old new : Replica D) (was now 
   pub follows : Follows g old new [] receipts
   pub few : length receipts ≤ 64
   pub written : WrittenNext receipts before after result
-  pub counted : AreCounted g old follows.episodes [] receipts was now
+  pub counted : AreCounted g old follows.episodes [] [] receipts was now
   pub rests : OnOk result ((facts_of g new).phase ≡ Resting)
   pub early : EndsAsAnswered follows.episodes result
 
 -- All that was delivered became durable, and was told, those of a block before the next one is begun. Where something had waited, the log is at rest
 -- then.
 pub record TellsAll {D : Type 0} (g : Ghosts D) (old new : Replica D) (was now : Counts) (before after : Option (List ℕ)) (result : Result (Unit {0}) Refusal) : Type 0 where
-  pub goes : Goes g old new [] was now before after result
+  pub goes : Goes g old new [] [] was now before after result
   pub all : OnOk result ((facts_of g new).ahead ≡ [])
   pub rests : 0 < length (facts_of g old).ahead → OnOk result ((facts_of g new).phase ≡ Resting)
 
 -- ---- a checkpoint that begins
 
--- Whether a checkpoint is due to begin: all that was delivered is durable, and some of it is behind the base; none is under way; and at least half
--- of the log's cells are live.
+-- Whether a checkpoint is due to begin: none is under way; something that is durable is above the base; and at least half of the log's cells are
+-- live. What waits to become durable changes nothing.
 abbrev pub is_checkpoint_due : Standing → Bool
-is_checkpoint_due s = is_quiet s && (nat_lt s.base s.durable && nat_le s.setting.cells (2 * (s.next - s.start)))
+is_checkpoint_due s = is_off s.stage && (nat_lt s.base s.durable && nat_le s.setting.cells (2 * (s.next - s.start)))
 
 -- A checkpoint to what is durable has begun, with some pages left, and nothing else moved.
 abbrev pub HasBegun : Standing → Standing → Type 0
@@ -138,12 +139,25 @@ abbrev pub AndBegins : {D : Type 0} → Ghosts D → Result (Unit {0}) Refusal �
 AndBegins g (Ok x) mid new result = Begins g mid new result
 AndBegins g (Err e) mid new result = (result ≡ Err e) × (new ≡ mid)
 
--- All that was delivered became durable, and was told; and where that ended well, a checkpoint began if one was due then.
+-- The next block became durable, and was told; and where that ended well, a checkpoint began if one was due then.
 pub record TellsAndBegins {D : Type 0} (g : Ghosts D) (old new : Replica D) (was now : Counts) (before after : Option (List ℕ)) (result : Result (Unit {0}) Refusal) : Type 0 where
   pub mid : Replica D
   pub told : Result (Unit {0}) Refusal
-  pub tells : TellsAll g old mid was now before after told
+  pub tells : TellsNext g old mid was now before after told
   pub begins : AndBegins g told mid new result
+
+-- a node between two blocks: the replica, what it counted, and what was written
+pub record Between (D : Type 0) : Type 0 where
+  pub replica : Replica D
+  pub counts : Counts
+  pub text : Option (List ℕ)
+
+-- Blocks one after another, with the node between each two of them: each became durable and was told, and a checkpoint began after it exactly
+-- where one was due. The last of them ended so, and those before it well.
+abbrev pub TellsBlocks : {D : Type 0} → Ghosts D → Replica D → Counts → Option (List ℕ) → List (Between D) → Replica D → Counts → Option (List ℕ) → Result (Unit {0}) Refusal → Type 0
+TellsBlocks g old was before [] new now after result = TellsAndBegins g old new was now before after result
+TellsBlocks g old was before (mid ∷ between) new now after result =
+    TellsAndBegins g old mid.replica was mid.counts before mid.text (Ok tt) × TellsBlocks g mid.replica mid.counts mid.text between new now after result
 
 -- ---- pages
 

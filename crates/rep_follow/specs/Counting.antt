@@ -1,12 +1,11 @@
 -- What a node counts of what it does.
 use Rattle.std.specs.Prelude.{◌≡◌, ℕ, ◌+◌, ◌-◌, ◌^◌, ◌<◌, min, Bool, true, false, nat_lt, cond, List, [], ◌∷◌, length, count_by}
 use Rattle.rep_types.specs.declared.item.Item.{Item}
-use Rattle.rep_types.specs.contracts.item.ItemPartialEq.TheImpl as item_eq
 use Rattle.rep_types.specs.declared.reply.Reply.{Reply}
 use Rattle.rep_types.specs.declared.verdict.Verdict.{Verdict}
 use Rattle.rep_types.specs.declared.verdict.Verdict.TheVariants.{Conflict, Stale, Future, BadKey}
 use Rattle.rep_types.specs.Order.{is_commit}
-use Rattle.rep_record.specs.Published.{no_effect}
+use Rattle.rep_requests.specs.Requests.{is_unreadable}
 use Rattle.rep_disk.specs.declared.disk.Disk.{Ghosts}
 use Rattle.rep_steps.specs.declared.answer.Answer.{Answer}
 use Rattle.rep_steps.specs.declared.answer.Answer.TheVariants.{Synced}
@@ -15,10 +14,6 @@ use Rattle.rep_replica.specs.Episodes.{Episode, Runs, GivesUp, Brings, Breaks}
 use Rattle.rep_follow.specs.declared.counts.Counts.{Counts}
 
 -- ---- what is counted
-
--- whether it is the item that has no effect, which a text stands for that is no item
-abbrev pub is_no_effect : Item → Bool
-is_no_effect i = (item_eq.ghosts).eq i no_effect
 
 -- the other verdicts
 abbrev pub is_conflict : Verdict → Bool
@@ -68,9 +63,10 @@ checkpoints_in g from (Breaks uuid y to ∷ es) = checkpoints_in g to es
 
 -- ---- how it is counted
 
--- what is counted of these items, which were taken, of these receipts, which were given, of so many blocks and of so many checkpoints
-abbrev pub tally : List Item → List Reply → ℕ → ℕ → Counts
-tally items receipts blocks checkpoints = record {
+-- what is counted of these items, which were taken, of the lines of those that came with a number, of these receipts, which were given, of so many
+-- blocks and of so many checkpoints
+abbrev pub tally : List Item → List (List ℕ) → List Reply → ℕ → ℕ → Counts
+tally items lines receipts blocks checkpoints = record {
   items = length items;
   blocks = blocks;
   checkpoints = checkpoints;
@@ -79,7 +75,7 @@ tally items receipts blocks checkpoints = record {
   stale = told_of is_stale receipts;
   future = told_of is_future receipts;
   badkey = told_of is_bad_key receipts;
-  unreadable = count_by is_no_effect items;
+  unreadable = count_by is_unreadable lines;
 }
 
 -- a counter of 64 bits that rises by so many: it stops at its greatest number
@@ -112,10 +108,11 @@ pub record HasCounters (c : Counts) : Type 0 where
   pub badkey : c.badkey < 2 ^ 64
   pub unreadable : c.unreadable < 2 ^ 64
 
--- The counters rose by what these parts of a life come to, from this replica on: these items were taken, and these receipts given.
-abbrev pub AreCounted : {D : Type 0} → Ghosts D → Replica D → List (Episode D) → List Item → List Reply → Counts → Counts → Type 0
-AreCounted g from episodes items receipts was now = now ≡ risen_by was (tally items receipts (blocks_in episodes) (checkpoints_in g from episodes))
+-- The counters rose by what these parts of a life come to, from this replica on: these items were taken, these are the lines of those that came
+-- with a number, and these receipts were given.
+abbrev pub AreCounted : {D : Type 0} → Ghosts D → Replica D → List (Episode D) → List Item → List (List ℕ) → List Reply → Counts → Counts → Type 0
+AreCounted g from episodes items lines receipts was now = now ≡ risen_by was (tally items lines receipts (blocks_in episodes) (checkpoints_in g from episodes))
 
 -- Nothing was counted but a checkpoint, where the base rose.
 abbrev pub HasSettled : {D : Type 0} → Ghosts D → Replica D → Replica D → Counts → Counts → Type 0
-HasSettled g old new was now = now ≡ risen_by was (tally [] [] 0 (one_where (nat_lt (facts_of g old).base (facts_of g new).base)))
+HasSettled g old new was now = now ≡ risen_by was (tally [] [] [] 0 (one_where (nat_lt (facts_of g old).base (facts_of g new).base)))

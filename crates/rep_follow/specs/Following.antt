@@ -57,7 +57,7 @@ pub record FollowsItems {D : Type 0} (g : Ghosts D) (first : ℕ) (old new : Rep
   pub out : List (List ℕ)
   pub out_is : HandedOut lines last out result
   pub handed : Consumes text behind (text_of out)
-  pub goes : Goes g old new items was now before after (went result)
+  pub goes : Goes g old new items lines was now before after (went result)
   pub ends : EndsAt g next new left asked rest lines last out result
 
 -- A stream fault is told only of a source or of a writer that has failed, and any other answer leaves both notes as they were.

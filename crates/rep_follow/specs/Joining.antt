@@ -40,9 +40,9 @@ pub record PartsAreJoined {D : Type 0} (g : Ghosts D) : Type 0 where
 
 -- The same of what is told and counted: nothing is, where the device was asked or a row was read.
 pub record GoingIsJoined {D : Type 0} (g : Ghosts D) : Type 0 where
-  pub none : (r : Replica D) (counts : Counts) (text : Option (List ℕ)) → HasCounters counts → Goes g r r [] counts counts text text (Ok tt)
-  pub asked : (old new : Replica D) (counts : Counts) (text : Option (List ℕ)) → HasCounters counts → IsAsked g old new → Goes g old new [] counts counts text text (Ok tt)
+  pub none : (r : Replica D) (counts : Counts) (text : Option (List ℕ)) → HasCounters counts → Goes g r r [] [] counts counts text text (Ok tt)
+  pub asked : (old new : Replica D) (counts : Counts) (text : Option (List ℕ)) → HasCounters counts → IsAsked g old new → Goes g old new [] [] counts counts text text (Ok tt)
   pub read : (old new : Replica D) (key : Key) (position : ℕ) (a : Answer) (counts : Counts) (text : Option (List ℕ)) → HasCounters counts → IsStep g old (Read key position) a new
-      → Goes g old new [] counts counts text text (Ok tt)
-  pub both : (old mid new : Replica D) (items more : List Item) (was between now : Counts) (before written after : Option (List ℕ)) (result : Result (Unit {0}) Refusal) → Goes g old mid items was between before written (Ok tt)
-      → Goes g mid new more between now written after result → Goes g old new (items ++ more) was now before after result
+      → Goes g old new [] [] counts counts text text (Ok tt)
+  pub both : (old mid new : Replica D) (items more : List Item) (lines behind : List (List ℕ)) (was between now : Counts) (before written after : Option (List ℕ)) (result : Result (Unit {0}) Refusal) → Goes g old mid items lines was between before written (Ok tt)
+      → Goes g mid new more behind between now written after result → Goes g old new (items ++ more) (lines ++ behind) was now before after result

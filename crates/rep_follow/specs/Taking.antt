@@ -1,17 +1,18 @@
 -- What is taken of an order.
-use Rattle.std.specs.Prelude.{◌≡◌, ◌⊎◌, ℕ, ◌+◌, ◌^◌, ◌≤◌, ◌==◌, Bool, true, false, if◌then◌else◌, List, [], ◌∷◌, ◌++◌, length, Option, None, Some, Result, Ok, Err, IfErr, OnErr}
+use Rattle.std.specs.Prelude.{◌≡◌, ◌⊎◌, ℕ, ◌+◌, ◌^◌, ◌≤◌, ◌==◌, ◌&&◌, Bool, true, false, not, nat_le, if◌then◌else◌, List, [], ◌∷◌, ◌++◌, length, Option, None, Some, Result, Ok, Err, IfErr, OnErr}
 use Rattle.std.specs.List.{flat_map}
 use Rattle.std.specs.Io.KnownBytes.{Consumes}
 use Rattle.rep_disk.specs.declared.disk.Disk.{Ghosts}
 use Rattle.rep_lines.specs.Lines.{HasNoFeed}
 use Rattle.rep_lines.specs.Feeds.{ahead}
 use Rattle.rep_requests.specs.Requests.{Requested, Published, Stated, requested}
-use Rattle.rep_steps.specs.Standings.{refusal}
+use Rattle.rep_types.specs.declared.limits.TheConstants.{MAX_AHEAD}
+use Rattle.rep_steps.specs.Standings.{Standing, refusal}
 use Rattle.rep_steps.specs.Events.{delivery}
 use Rattle.rep_replica.specs.Replicas.{Replica, facts_of}
 use Rattle.rep_follow.specs.declared.counts.Counts.{Counts}
 use Rattle.rep_follow.specs.Counting.{checkpoints_in}
-use Rattle.rep_follow.specs.Committing.{Follows, IsLastAnswer, Goes, IsHeldUp}
+use Rattle.rep_follow.specs.Committing.{Follows, IsLastAnswer, Goes, IsHeldUp, TellsAndBegins}
 use Rattle.rep_types.specs.declared.item.Item.{Item}
 use Rattle.rep_types.specs.declared.refusal.Refusal.{Refusal}
 use Rattle.rep_types.specs.declared.refusal.Refusal.TheVariants.{StreamFault, Exhausted}
@@ -33,6 +34,28 @@ pub record Delivers {D : Type 0} (g : Ghosts D) (old new : Replica D) (i : Item)
 -- or it is the first refusal of the delivery that applies.
 abbrev pub IsNotTaken : {D : Type 0} → Ghosts D → Replica D → ℕ → Item → Refusal → Type 0
 IsNotTaken g new seqno i e = (e ≡ StreamFault) ⊎ (IsHeldUp g new e ⊎ (refusal (facts_of g new) (delivery seqno i) ≡ Some e))
+
+-- Whether as many items are delivered and not durable as may be, at a node that runs.
+abbrev pub is_backlogged : Standing → Bool
+is_backlogged s = not s.stopped && nat_le MAX_AHEAD (length s.ahead)
+
+-- What comes before an item: where as many wait as may, a block, with the checkpoint after it if one is due; else nothing.
+abbrev pub MakesRoom : {D : Type 0} → Ghosts D → Bool → Replica D → Replica D → Counts → Counts → Option (List ℕ) → Option (List ℕ) → Result (Unit {0}) Refusal → Type 0
+MakesRoom g true old mid was between before after made = TellsAndBegins g old mid was between before after made
+MakesRoom g false old mid was between before after made = (mid ≡ old) × (between ≡ was) × (after ≡ before) × (made ≡ Ok tt)
+
+-- what follows where that ended well: the item is delivered, or is refused
+abbrev pub AndDelivers : {D : Type 0} → Ghosts D → Item → Result (Unit {0}) Refusal → Replica D → Replica D → Result (Unit {0}) Refusal → Type 0
+AndDelivers g i (Ok x) mid new result = Delivers g mid new i result
+AndDelivers g i (Err e) mid new result = (result ≡ Err e) × (new ≡ mid)
+
+-- There was room for the item, or it was made; and where that ended well, it was delivered, or refused.
+pub record TakesItem {D : Type 0} (g : Ghosts D) (i : Item) (old new : Replica D) (was : Counts) (before after : Option (List ℕ)) (result : Result (Unit {0}) Refusal) : Type 0 where
+  pub mid : Replica D
+  pub between : Counts
+  pub made : Result (Unit {0}) Refusal
+  pub room : MakesRoom g (is_backlogged (facts_of g old)) old mid was between before after made
+  pub delivers : AndDelivers g i made mid new result
 
 -- the item that a line is which asks for this, where it has this seqno of the order
 abbrev pub item_at : ℕ → Requested → Option Item
@@ -73,7 +96,7 @@ pub record TakesLines {D : Type 0} (g : Ghosts D) (first : ℕ) (old new : Repli
   pub are : AreItems first lines items
   pub next_is : next ≡ first + length items
   pub handed : (rest : Option (List ℕ)) → Consumes (ahead held rest) (ahead left rest) (text_of (handed_by lines last result))
-  pub goes : Goes g old new items was now before after (done_by result)
+  pub goes : Goes g old new items lines was now before after (done_by result)
   pub ends : EndsBy g new next left last result
 
 -- ---- the items of a text

@@ -1,9 +1,11 @@
 //! What a node counts of what it does.
 
-ghost use Rattle.std.specs.Prelude.{◌≡◌, [], ◌∷◌};
-ghost use Rattle.rep_follow.specs.Counting.{is_no_effect, one_where, tally, risen_by, HasCounters};
+ghost use Rattle.std.specs.Prelude.{◌≡◌, ℕ, [], ◌∷◌};
+ghost use Rattle.rep_types.specs.declared.item.Item.{Item as AnItem};
+ghost use Rattle.rep_requests.specs.Requests.{Published, requested};
+ghost use Rattle.rep_follow.specs.Counting.{one_where, tally, risen_by, HasCounters};
 
-use rep_record::no_effect;
+use rep_requests::is_unreadable;
 use rep_types::{Item, Reply, Verdict};
 
 /// What a node counts of what it does. Each counter stops at 2^64 - 1.
@@ -25,21 +27,14 @@ pub struct Counts {
     pub future: u64,
     /// Those whose item has a key outside the schema.
     pub badkey: u64,
-    /// The items that were taken and have no effect, as which a text counts that is no item.
+    /// The items that were taken whose text is none.
     pub unreadable: u64,
-}
-
-/// Whether it is the item that has no effect.
-fn is_no_effect(item: &Item) -> bool
-    ensures { result ≡ is_no_effect item.now }
-{
-    *item == no_effect()
 }
 
 impl Counts {
     /// Nothing is counted yet.
     pub fn new() -> Counts
-        ensures { result ≡ tally [] [] 0 0 }
+        ensures { result ≡ tally [] [] [] 0 0 }
     {
         Counts {
             items: 0,
@@ -59,20 +54,29 @@ impl Counts {
         ensures { HasCounters self }
     {}
 
-    /// What is counted of an item that was taken.
-    pub(crate) fn of_item(item: &Item) -> Counts
-        ensures { result ≡ tally (item.now ∷ []) [] 0 0 }
+    /// What is counted of an item that was taken, its text aside.
+    pub(crate) fn of_item() -> Counts
+        ensures { (i : AnItem) → result ≡ tally (i ∷ []) [] [] 0 0 }
     {
         Counts {
             items: 1,
-            unreadable: u64::from(is_no_effect(item)),
+            ..Counts::new()
+        }
+    }
+
+    /// What is counted of a text, which is no item or is one.
+    fn of_text(is_unreadable: bool) -> Counts
+        ensures { result ≡ record (tally [] [] [] 0 0) { unreadable = one_where is_unreadable } }
+    {
+        Counts {
+            unreadable: u64::from(is_unreadable),
             ..Counts::new()
         }
     }
 
     /// What is counted of a receipt that was given.
     fn of_receipt(reply: &Reply) -> Counts
-        ensures { result ≡ tally [] (reply.now ∷ []) 0 0 }
+        ensures { result ≡ tally [] [] (reply.now ∷ []) 0 0 }
     {
         let mut counts = Counts::new();
         match reply.verdict {
@@ -87,7 +91,7 @@ impl Counts {
 
     /// What is counted of a block that became durable, or of none, and of a checkpoint that ended, or of none; its receipts aside.
     fn of_block(durable: bool, ended: bool) -> Counts
-        ensures { result ≡ tally [] [] (one_where durable) (one_where ended) }
+        ensures { result ≡ tally [] [] [] (one_where durable) (one_where ended) }
     {
         Counts {
             blocks: u64::from(durable),
@@ -111,16 +115,23 @@ impl Counts {
         self.unreadable = self.unreadable.saturating_add(more.unreadable);
     }
 
+    /// Counts the text of a line that is this item, where it is none.
+    pub(crate) fn count_text(&mut self, line: &[u8], item: &Item)
+        ensures { (seqno : ℕ) → requested 0 line.now ≡ Published seqno item.now → self.new ≡ risen_by self.old (tally [] (line.now ∷ []) [] 0 0) }
+    {
+        self.rise(&Counts::of_text(is_unreadable(line, item)));
+    }
+
     /// Counts a checkpoint, where one ended.
     pub(crate) fn count_checkpoint(&mut self, ended: bool)
-        ensures { self.new ≡ risen_by self.old (tally [] [] 0 (one_where ended)) }
+        ensures { self.new ≡ risen_by self.old (tally [] [] [] 0 (one_where ended)) }
     {
         self.rise(&Counts::of_block(false, ended));
     }
 
     /// Counts a block with its receipts, and a checkpoint, where one ended beside it.
     pub(crate) fn count_block(&mut self, replies: &[Reply], ended: bool)
-        ensures { self.new ≡ risen_by self.old (tally [] replies.now 1 (one_where ended)) }
+        ensures { self.new ≡ risen_by self.old (tally [] [] replies.now 1 (one_where ended)) }
     {
         self.rise(&Counts::of_block(true, ended));
         for reply in replies {

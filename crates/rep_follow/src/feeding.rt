@@ -2,7 +2,7 @@
 
 ghost use Rattle.std.specs.Prelude.{◌≡◌, true, false, None, Some};
 ghost use Rattle.rep_streams.specs.Streams.{Notes};
-ghost use Rattle.rep_requests.specs.Requests.{requested};
+ghost use Rattle.rep_requests.specs.Requests.{Published, requested};
 ghost use Rattle.rep_follow.specs.Taking.{item_at, TakesLines};
 
 use crate::counts::Counts;
@@ -19,6 +19,7 @@ use rep_types::{Item, Refusal};
 /// Whether the line is the item that has this seqno of the order. If it is, it comes in the item's place.
 fn is_next(line: &[u8], seqno: u64, item: &mut Item) -> bool
     ensures some { result ≡ true → item_at seqno (requested 0 line.now) ≡ Some item.new }
+    ensures published { result ≡ true → requested 0 line.now ≡ Published seqno item.new }
     ensures none { result ≡ false → item_at seqno (requested 0 line.now) ≡ None }
 {
     renew_numbered(line, seqno, item)
@@ -52,6 +53,7 @@ pub fn take_lines<D: Disk, W: Sink>(
         if let Err(refusal) = take(replica, counts, writer, seqno, &item) {
             return Err(refusal);
         }
+        counts.count_text(line, &item);
         *next = after;
     }
     Ok(false)

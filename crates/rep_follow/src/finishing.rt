@@ -29,8 +29,8 @@ fn settle<D: Disk>(replica: &mut Replica<D>, counts: &mut Counts) -> Result<(), 
     ended
 }
 
-/// Makes all that was delivered durable and tells it, as `commit` does, and then ends the checkpoint that is under way, where one is. None
-/// begins.
+/// Makes all that was delivered durable and tells it, as `commit` does, and then ends the checkpoint that is under way, where one is. Where nothing
+/// waits, none begins.
 ///
 /// Refuses as `commit` does, and where a step of the checkpoint is refused as `Replica::settle` says: all is durable and told then.
 pub fn finish<D: Disk, W: Sink>(

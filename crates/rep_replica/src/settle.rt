@@ -1,11 +1,12 @@
 //! A replica that works until nothing is left to do.
 
-ghost use Rattle.std.specs.Prelude.{◌≡◌, ◌<◌, ◌||◌, ◌⊎◌, true, false, is_some, length, slice_get, Err, IfErr, IfSome, OnOk};
+ghost use Rattle.std.specs.Prelude.{◌≡◌, ◌<◌, ◌||◌, ◌⊎◌, true, false, not, is_some, length, slice_get, Err, IfErr, IfSome, OnOk};
 ghost use Rattle.rep_types.specs.Items.{IsWithin};
 ghost use Rattle.rep_log.specs.declared.phase.Phase.TheVariants.{Resting};
 ghost use Rattle.rep_log.specs.declared.phase.Step.TheVariants.{Full};
 ghost use Rattle.rep_log.specs.Standing.{due_of};
 ghost use Rattle.rep_steps.specs.Standings.{Off};
+ghost use Rattle.rep_steps.specs.Moves.{is_off};
 ghost use Rattle.rep_replica.specs.Replicas.{facts_of};
 ghost use Rattle.rep_replica.specs.Settling.{is_quiet, IsRunning, outcome_of, Works, EndsEarly, step_of, Keeps, Rests, work_of};
 ghost use Rattle.rep_replica.specs.Committing.{LeavesRoom};
@@ -38,6 +39,13 @@ impl<D: Disk> Replica<D> {
         self.backlog.is_empty()
             && self.engine.delivered() == self.engine.durable()
             && self.checkpoint_event().is_none()
+    }
+
+    /// Whether a checkpoint is under way.
+    pub fn has_checkpoint(&self) -> bool
+        ensures { result ≡ not (is_off (facts_of D.Disk self.now).stage) }
+    {
+        self.checkpoint_event().is_some()
     }
 
     /// The step that the checkpoint under way waits for.

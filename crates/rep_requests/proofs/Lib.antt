@@ -1,3 +1,4 @@
 pub mod Keys
 pub mod Spaces
 pub mod Numbered
+pub mod Unread

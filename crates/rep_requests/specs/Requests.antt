@@ -1,11 +1,12 @@
 -- What a line asks of a node that follows an order (this project): total over all bytes.
-use Rattle.std.specs.Prelude.{ℕ, ◌^◌, ◌==◌, Bool, false, ◌||◌, nat_lt, if◌then◌else◌, ℤ, pos, negsuc, List, [], ◌∷◌, length, take, drop, codes, Option, None, Some, Result, Ok, Err}
+use Rattle.std.specs.Prelude.{ℕ, ◌^◌, ◌==◌, Bool, true, false, not, ◌||◌, ◌&&◌, nat_lt, if◌then◌else◌, ℤ, pos, negsuc, List, [], ◌∷◌, length, take, drop, codes, Option, None, Some, Result, Ok, Err}
 use Rattle.std.specs.Char.{is_digit}
 use Rattle.rep_types.specs.declared.key.Key.{Key}
 use Rattle.rep_types.specs.declared.item.Item.{Item}
 use Rattle.rep_types.specs.declared.refusal.Refusal.{Refusal}
 use Rattle.rep_types.specs.declared.refusal.Refusal.TheVariants.{Malformed, TooManyReads}
 use Rattle.rep_types.specs.Gtids.{Gtid, gtid_in}
+use Rattle.rep_record.specs.declared.text_reader.TheConstants.{MAX_LINE}
 use Rattle.rep_record.specs.Words.{words, is_blank, cut}
 use Rattle.rep_record.specs.Reading.{number_in, is_next, some_each, key_in, order_line}
 use Rattle.rep_record.specs.Published.{published}
@@ -69,6 +70,24 @@ numbered line = numbered_by (cut 32 line)
 abbrev pub published_with : Option (ℕ × List ℕ) → Requested
 published_with None = Broken
 published_with (Some parts) = Published parts.0 (published parts.1)
+
+-- ---- a text that is no item
+
+abbrev pub is_read : Result Item Refusal → Bool
+is_read (Ok i) = true
+is_read (Err refusal) = false
+
+-- whether the text is an item: it has at most 4,096 bytes, and is a line of an order text
+abbrev pub is_item : List ℕ → Bool
+is_item text = not (nat_lt MAX_LINE (length text)) && is_read (order_line 0 text)
+
+abbrev pub is_unreadable_by : Option (List ℕ × List ℕ) → Bool
+is_unreadable_by None = false
+is_unreadable_by (Some parts) = not (is_item parts.1)
+
+-- Whether what stands after the first space of the line is no item.
+abbrev pub is_unreadable : List ℕ → Bool
+is_unreadable line = is_unreadable_by (cut 32 line)
 
 -- ---- a command
 

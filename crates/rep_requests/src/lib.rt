@@ -7,7 +7,9 @@
 mod laws;
 mod position;
 mod request;
+mod texts;
 
 pub use laws::numbers_are_items;
 pub use position::read_order;
 pub use request::{MAX_KEYS, Request, read_request, renew_numbered};
+pub use texts::is_unreadable;

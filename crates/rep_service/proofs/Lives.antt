@@ -84,7 +84,7 @@ module _ {D : Type 0} (g : Ghosts D) where
   stays_of old new said before after still lives = record { follows = subst (Follows g old new []) still lives.follows; rests = lives.rests }
 
   module _ (parts : PartsAreJoined g) where
-    pub lives_goes : (old new : Replica D) (items : List Item) (was now : Counts) (before after : Option (List ℕ)) (r : Result (Unit {0}) Refusal) (goes : Goes g old new items was now before after r) → Lives g old new items (receipts_said goes.receipts) before after r
+    pub lives_goes : (old new : Replica D) (items : List Item) {lines : List (List ℕ)} (was now : Counts) (before after : Option (List ℕ)) (r : Result (Unit {0}) Refusal) (goes : Goes g old new items lines was now before after r) → Lives g old new items (receipts_said goes.receipts) before after r
     lives_goes old new items was now before after r goes = record {
       follows = subst (Follows g old new items) (sym (given_said goes.receipts)) goes.follows;
       written = writes_receipts goes.receipts before after r goes.written;

@@ -1,6 +1,6 @@
 use Rattle.std.proofs.Common.{length}
 use Rattle.rep_replica.specs.Replicas.{facts_of}
-use Rattle.rep_follow.proofs.Committing.{Told}
+use Rattle.rep_follow.proofs.Telling.{Told}
 use Rattle.rep_follow.proofs.blocks.commit_all.Given as goal
 
 -- what was made durable so far is told

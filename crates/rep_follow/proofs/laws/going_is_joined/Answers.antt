@@ -8,5 +8,5 @@ returns g c = record {
   none = λ r counts text has. goes_none g.D.Disk r counts text (Ok tt) has tt;
   asked = goes_asked g.D.Disk c.asks_are_given_up.ensures;
   read = λ old new key position a counts text has step. goes_read g.D.Disk c.runs_are_joined.ensures old new key position a step counts text has;
-  both = λ old mid new items more was between now before written after result one two. goes_both g.D.Disk old mid new items more was between now before written after tt result one two;
+  both = λ old mid new items more lines behind was between now before written after result one two. goes_both g.D.Disk old mid new items more lines behind was between now before written after tt result one two;
 }

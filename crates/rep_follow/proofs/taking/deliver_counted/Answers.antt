@@ -6,7 +6,7 @@ use Rattle.rep_follow.proofs.taking.deliver_counted.Goals as goal
 
 pub returns-in-Ok-clause-goes : goal.returns-in-Ok-clause-goes
 returns-in-Ok-clause-goes g c text =
-    goes_item g.D.Disk c.args.replica.now c.deliver.new.replica c.args.item.now c.args.counts.now c.rise.new.self text c.in-Ok.ensures.delivers (rw c.of_item-more.ensures at c.rise.ensures)
+    goes_item g.D.Disk c.args.replica.now c.deliver.new.replica c.args.item.now c.args.counts.now c.rise.new.self text c.in-Ok.ensures.delivers (rw (c.of_item-more.ensures c.args.item.now) at c.rise.ensures)
 
 pub returns-in-Err-clause-goes : goal.returns-in-Err-clause-goes
 returns-in-Err-clause-goes g c text = goes_no_item g.D.Disk c.args.replica.now c.deliver.new.replica c.args.item.now c.args.counts.now text c.in-Err.refusal c.in-Err.ensures.delivers c.limits.ensures
