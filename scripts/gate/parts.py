@@ -23,7 +23,7 @@ CHECK = 4_000_000_000
 GATE = "rt ci"
 EDITS = "scripts/edits --gate"
 # Behind the gate: those of a row go one after another, beside the other rows.
-ROWS = (("scripts/lives",), ("scripts/edits --fit", "scripts/pages", "scripts/program", "scripts/waits", "scripts/shown", "scripts/sums", "scripts/follows", "scripts/growths", "scripts/served"))
+ROWS = (("scripts/lives",), ("scripts/edits --fit", "scripts/pages", "scripts/program", "scripts/waits", "scripts/shown", "scripts/sums", "scripts/follows", "scripts/forgets", "scripts/growths", "scripts/served", "scripts/together"))
 
 
 def fill_processors():

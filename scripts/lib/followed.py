@@ -141,11 +141,11 @@ def run(words, given=b"", status=0, **more):
 
 
 class Following:
-    """A program that follows an order, fed while it runs."""
+    """A program that follows an order, or runs what these words say of a disk, fed while it runs."""
 
-    def __init__(self, program, disk, environment=None):
+    def __init__(self, program, disk, environment=None, words=("follow",)):
         pipes = {"stdin": subprocess.PIPE, "stdout": subprocess.PIPE, "stderr": subprocess.PIPE}
-        self.process = subprocess.Popen([program, "follow", disk], env={**os.environ, **(environment or {})}, **pipes)
+        self.process = subprocess.Popen([program, *words, disk], env={**os.environ, **(environment or {})}, **pipes)
         self.writer, self.lines = None, []
 
     def feed(self, data):
@@ -208,7 +208,8 @@ class Following:
             self.writer.join()
         self.process.stdout.close()
         self.process.stderr.close()
-        if status not in statuses or not is_silent(told, status):
+        # (one that was killed may have been about to say why it is refused)
+        if status not in statuses or not is_silent(told, 1 if status < 0 else status):
             raise Wrong("it ends with status %d, %r, %r" % (status, self.lines[-2:], told[-200:]))
         return self.lines
 

@@ -8,7 +8,7 @@
  *   MET=failing      the call fails (EIO), and the program goes on
  *   MET=held         the program stands still before it (SIGSTOP), and goes on once it is told to
  *   NOTED=PATH       a letter is put there for each call, before it is made: `o` open, `w` write, `s` sync, `m` rights or owner, `r` rename,
- *                    `u` unlink
+ *                    `l` hard link, `u` unlink
  */
 #define _GNU_SOURCE
 #include <dlfcn.h>
@@ -88,5 +88,7 @@ int fchmod(int file, mode_t mode) { return fails("m") ? -1 : ((int (*)(int, mode
 int fchown(int file, uid_t user, gid_t group) { return fails("m") ? -1 : ((int (*)(int, uid_t, gid_t))next("fchown"))(file, user, group); }
 
 int rename(const char *from, const char *to) { return fails("r") ? -1 : ((int (*)(const char *, const char *))next("rename"))(from, to); }
+
+int link(const char *from, const char *to) { return fails("l") ? -1 : ((int (*)(const char *, const char *))next("link"))(from, to); }
 
 int unlink(const char *path) { return fails("u") ? -1 : ((int (*)(const char *))next("unlink"))(path); }

@@ -4,10 +4,12 @@ ghost use Rattle.rep_disk.specs.History.{Begins};
 ghost use Rattle.rep_disk.specs.Calls.{IsRead, IsWrite, IsSync};
 
 use crate::counting::counted;
+use crate::locked::{Access, locked_file};
+use crate::mark::{is_marked, set_mark};
 use crate::{Disk, DiskFault};
-use std::fs::{File, Files, OpenFile, OpenOptions};
+use std::fs::{File, Files, OpenFile};
 use std::io::{self, ErrorKind};
-use std::os::unix::fs::FileExt;
+use std::os::unix::fs::{FileExt, MetadataExt};
 
 /// A disk on a file. Nothing is claimed of it but its size, its count of failures, and that no sync
 /// succeeds once one has failed: that it is honest is for the system to keep, and no proof says so.
@@ -24,8 +26,10 @@ use std::os::unix::fs::FileExt;
 /// - A failed sync tells of a write that the device refused, once: the kernel may have dropped the
 ///   bytes, reads may still give them, and a later sync may succeed without them. So once a sync has
 ///   failed every later one fails too, and the file is not asked again. Nothing is known then of
-///   what was written since the last sync that succeeded, and the file is to be opened again. Bytes
-///   of the kernel's that the device never got may even then be read, until they leave its memory.
+///   what was written since the last sync that succeeded. The file is marked (`set_mark`), where the
+///   system lets this program do that, and is not opened again until all of it was written anew.
+///   Where it can't be marked, no program may open it until the machine was started anew.
+/// - A sync of a file that has no name left fails too: nobody could open what it made stable.
 ///
 /// `open`, `open_to_read` and `create` hold the file's lock (`flock`), which ends with the disk: two
 /// programs that both ask for it don't change one disk at a time. Nothing keeps other programs from
@@ -97,6 +101,18 @@ fn write_zeros(file: &File, size: usize) -> io::Result<()> {
     Ok(())
 }
 
+/// Syncs the file's bytes.
+///
+/// Refuses what the system refuses; and a file without a name, with `NotFound`. (One that is no file of the system has no number, and no name.)
+fn sync_named<F: OpenFile>(file: &F) -> io::Result<()> {
+    file.sync_data()?;
+    let known = file.metadata()?;
+    if known.nlink() == 0 && known.ino() != 0 {
+        return Err(io::Error::from(ErrorKind::NotFound));
+    }
+    Ok(())
+}
+
 /// The folder in which the file at this path lies.
 fn folder_of(path: &str) -> &str {
     match path.rsplit_once('/') {
@@ -109,15 +125,26 @@ fn folder_of(path: &str) -> &str {
 impl FileDisk<File> {
     ghost use Rattle.rep_disk.specs.Fuses.{file_size, file_failures, file_lost};
 
+    /// A disk on this file, which is locked.
+    ///
+    /// Refuses a file that is marked, with `InvalidData`, and what the system refuses.
+    fn trusted(file: File) -> io::Result<FileDisk<File>>
+        ensures unfailed { IfOk result (λ disk. file_failures disk ≡ 0) }
+        ensures kept { IfOk result (λ disk. file_lost disk ≡ false) }
+    {
+        if is_marked(&file)? {
+            return Err(io::Error::from(ErrorKind::InvalidData));
+        }
+        FileDisk::new(file)
+    }
+
     /// A disk on the file at this path, which has to be there, under its lock. Refuses what the system
-    /// refuses, and a file whose lock another program holds.
+    /// refuses, a file whose lock another program holds, and one that is marked, with `InvalidData`.
     pub fn open<R: Files<File = File>>(rt: &R, path: &str) -> io::Result<FileDisk<File>>
         ensures unfailed { IfOk result (λ disk. file_failures disk ≡ 0) }
         ensures kept { IfOk result (λ disk. file_lost disk ≡ false) }
     {
-        let file = OpenOptions::new().read(true).write(true).open(rt, path)?;
-        file.try_lock()?;
-        FileDisk::new(file)
+        FileDisk::trusted(locked_file(rt, path, Access::Change)?)
     }
 
     /// The same to read alone: each write fails. It needs no right to change the file, and shares the lock
@@ -126,12 +153,7 @@ impl FileDisk<File> {
         ensures unfailed { IfOk result (λ disk. file_failures disk ≡ 0) }
         ensures kept { IfOk result (λ disk. file_lost disk ≡ false) }
     {
-        let file = File::open(rt, path)?;
-        if file.metadata()?.is_dir() {
-            return Err(io::Error::from(ErrorKind::IsADirectory));
-        }
-        file.try_lock_shared()?;
-        FileDisk::new(file)
+        FileDisk::trusted(locked_file(rt, path, Access::Read)?)
     }
 
     /// A disk of so many zero bytes on a new file at this path, under its lock. Each byte is written, and
@@ -223,10 +245,12 @@ impl<F: FileExt + OpenFile + Drop> Disk for FileDisk<F> {
         if self.lost {
             return counted(Err(DiskFault), &mut self.failures);
         }
-        let outcome = self.file.sync_data();
+        let outcome = sync_named(&self.file);
         self.lost = outcome.is_err();
-        if !self.lost {
+        if outcome.is_ok() {
             self.syncs = self.syncs.saturating_add(1);
+        } else {
+            let _ = set_mark(&self.file, true);
         }
         counted(outcome, &mut self.failures)
     }

@@ -10,6 +10,8 @@ mod file;
 mod fuse;
 mod held;
 mod laws;
+mod locked;
+mod mark;
 mod memory;
 
 pub use disk::{Disk, DiskFault};
@@ -22,4 +24,6 @@ pub use laws::{
     images_after_a_call, images_of_a_moment, moments_of_calls, reads_as_an_image,
     reads_what_was_written,
 };
+pub use locked::{Access, locked_file};
+pub use mark::{MARK, has_mark, is_marked, set_mark};
 pub use memory::{Loss, MemDisk};

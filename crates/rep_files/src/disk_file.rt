@@ -1,18 +1,16 @@
 //! Disks that are files.
 
-use crate::name::{Identity, Unnamed, named, remove_file};
-use crate::waiting::{Use, lock, waited_for};
+use crate::waiting::waited_for;
 use rep_damage::{damage_in, why_no_disk};
-use rep_disk::FileDisk;
-use rep_layout::need;
-use rep_reasons::{Cause, Fault, Noted, NotedFile, OUTPUT};
-use rep_service::{Replica, format_text};
-use rep_streams::WriterSink;
-use rep_types::{Params, Refusal};
-use std::fs::{File, Files};
+use rep_disk::{Access, FileDisk, is_marked};
+use rep_reasons::{Cause, Fault, NotedFile};
+use rep_renewal::{Unnamed, named, trusted_file};
+use rep_service::Replica;
+use rep_types::Refusal;
+use std::fs::{File, Files, OpenFile};
 use std::io;
+use std::os::unix::fs::MetadataExt;
 use std::rt::Clock;
-use uuid::Uuid;
 
 /// A disk that is a file, and that keeps why it failed.
 pub type DiskOnFile = FileDisk<NotedFile>;
@@ -21,14 +19,49 @@ pub type DiskOnFile = FileDisk<NotedFile>;
 pub type OnFile = Replica<DiskOnFile>;
 
 /// The fault of a file that cannot be opened as a disk, for this cause.
-fn unopened<'a>(error: io::Error) -> Fault<'a> {
+pub(crate) fn unopened<'a>(error: io::Error) -> Fault<'a> {
     Fault::new(Refusal::DiskFault, Cause::System(error))
 }
 
-/// Why the disk on this file was refused so, where that is known: what the system said of its first call that failed, or where it is damaged.
+/// A sync of a file failed, and nothing tells the next program so.
+const UNMARKED: Cause = Cause::Words(
+    "a sync of it failed, and it cannot be marked: let no program open it before the machine was started anew",
+);
+
+/// Whether a sync of the file failed, and it is not marked: nothing keeps the next program from trusting what it gives.
+fn is_unmarked(file: &NotedFile) -> bool {
+    file.has_lost() && !matches!(is_marked(file), Ok(true))
+}
+
+/// Why the disk on this file failed, where that is known: the file has no name any more, it should be marked and is not, or what the system said of its first
+/// call that failed.
+fn cause_of_failure(file: &NotedFile) -> Option<Cause> {
+    let error = file.error();
+    if let Ok(known) = file.metadata() {
+        if known.nlink() == 0 {
+            return Some(Cause::Words("it was removed, or another file has taken its name"));
+        }
+    }
+    if is_unmarked(file) {
+        return Some(UNMARKED);
+    }
+    Some(Cause::System(error?))
+}
+
+/// Says on standard error, of a disk that was used to the end, where nothing keeps the next program from trusting it though a sync of it failed.
+pub(crate) fn tell_unmarked<R: Eprint>(rt: &R, path: &str, disk: DiskOnFile) {
+    if is_unmarked(&disk.into_file()) {
+        let fault = Fault::new(Refusal::DiskFault, UNMARKED).of(path);
+        if let Some(reason) = fault.reason() {
+            let _ = eprintln!(rt; "replicad: {reason}");
+        }
+    }
+}
+
+/// Why the disk on this file was refused so, where that is known: why it failed, or where it is damaged.
 fn cause_on(file: &NotedFile, refusal: Refusal) -> Option<Cause> {
     match refusal {
-        Refusal::DiskFault | Refusal::Stopped => Some(Cause::System(file.error()?)),
+        Refusal::DiskFault | Refusal::Stopped => cause_of_failure(file),
         Refusal::NotFormatted => Some(why_no_disk(file)),
         Refusal::Corrupt { part } => damage_in(file, part),
         _ => None,
@@ -43,24 +76,37 @@ pub fn disk_fault<'a>(disk: DiskOnFile, refusal: Refusal) -> Fault<'a> {
     }
 }
 
-/// The disk that keeps why it fails.
-fn noted(disk: FileDisk<File>) -> Result<DiskOnFile, Unnamed> {
-    match FileDisk::new(NotedFile::new(disk.into_file())) {
+/// The disk on this file, which keeps why it fails. The file whose place it took, if it took one's, stays open as long.
+pub(crate) fn noted(file: File, before: Option<File>) -> Result<DiskOnFile, Unnamed> {
+    match FileDisk::new(NotedFile::new(file, before)) {
         Ok(disk) => Ok(disk),
         Err(error) => Err(unopened(error)),
     }
 }
 
+/// The disk on the file at this path, which is locked for this use. Where a sync of it failed before, all of it is written anew first.
+///
+/// Refuses as `trusted_file` does.
+fn disk_on<R: Files<File = File> + AllocGlobal>(
+    rt: &R,
+    path: &str,
+    access: Access,
+    file: File,
+) -> Result<DiskOnFile, Unnamed> {
+    let held = trusted_file(rt, path, access, file)?;
+    noted(held.file, held.before)
+}
+
 /// The disk at this path, which is used so.
 ///
-/// Refuses with `DiskFault` one that cannot be opened as a file, or that other programs use for two seconds.
-pub(crate) fn disk_at<'a, R: Files<File = File> + Clock>(
+/// Refuses with `DiskFault` one that cannot be opened as a file, or that other programs use for two seconds; and else as `trusted_file` does.
+pub(crate) fn disk_at<'a, R: Files<File = File> + AllocGlobal + Clock>(
     rt: &R,
     path: &'a str,
-    used: Use,
+    access: Access,
 ) -> Result<DiskOnFile, Fault<'a>> {
-    match waited_for(rt, path, used) {
-        Ok(disk) => named(noted(disk), path),
+    match waited_for(rt, path, access) {
+        Ok(file) => named(disk_on(rt, path, access, file), path),
         Err(cause) => Err(Fault::new(Refusal::DiskFault, cause).of(path)),
     }
 }
@@ -69,9 +115,9 @@ pub(crate) fn disk_at<'a, R: Files<File = File> + Clock>(
 fn opened_for<'a, R: Files<File = File> + AllocGlobal + Clock>(
     rt: &R,
     path: &'a str,
-    used: Use,
+    access: Access,
 ) -> Result<OnFile, Fault<'a>> {
-    match Replica::open(rt.alloc(), disk_at(rt, path, used)?) {
+    match Replica::open(rt.alloc(), disk_at(rt, path, access)?) {
         Ok(replica) => Ok(replica),
         Err((disk, refusal)) => Err(disk_fault(disk, refusal).of(path)),
     }
@@ -79,12 +125,13 @@ fn opened_for<'a, R: Files<File = File> + AllocGlobal + Clock>(
 
 /// The replica on the disk at this path.
 ///
-/// Refuses with `DiskFault` a file that cannot be opened, or that other programs use for two seconds; and else as `Replica::open` does.
+/// Refuses with `DiskFault` a file that cannot be opened, that other programs use for two seconds, or that is to be written anew and cannot be; and else as
+/// `Replica::open` does.
 pub fn opened_file<'a, R: Files<File = File> + AllocGlobal + Clock>(
     rt: &R,
     path: &'a str,
 ) -> Result<OnFile, Fault<'a>> {
-    opened_for(rt, path, Use::Change)
+    opened_for(rt, path, Access::Change)
 }
 
 /// The replica on the disk at this path, which is opened to read alone.
@@ -94,70 +141,5 @@ pub(crate) fn opened_to_read<'a, R: Files<File = File> + AllocGlobal + Clock>(
     rt: &R,
     path: &'a str,
 ) -> Result<OnFile, Fault<'a>> {
-    opened_for(rt, path, Use::Read)
-}
-
-/// A disk of zero bytes on this new file at this path, as large as these parameters need.
-///
-/// Refuses with `DiskFault` where the file fails, or other programs use it for two seconds.
-fn zeroed<R: Files<File = File> + Clock>(
-    rt: &R,
-    file: File,
-    path: &str,
-    params: &Params,
-) -> Result<DiskOnFile, Unnamed> {
-    if let Err(cause) = lock(rt, &file) {
-        return Err(Fault::new(Refusal::DiskFault, cause));
-    }
-    match FileDisk::zeroed(rt, file, path, need(params) as usize) {
-        Ok(disk) => noted(disk),
-        Err(error) => Err(unopened(error)),
-    }
-}
-
-/// Makes this new file at this path a disk with these parameters.
-///
-/// Refuses with `DiskFault` where the file fails, and else as `format_text` does.
-fn format_new<'a, R: Files<File = File> + Print + Clock>(
-    rt: &R,
-    file: File,
-    path: &'a str,
-    params: &Params,
-    uuid: Option<Uuid>,
-) -> Result<(), Fault<'a>> {
-    let disk = named(zeroed(rt, file, path, params), path)?;
-    let mut output = Noted::new(io::writer(rt));
-    let (disk, outcome) = format_text(disk, params, uuid, &mut WriterSink::new(&mut output));
-    match outcome {
-        Ok(()) => Ok(()),
-        Err(Refusal::StreamFault) => Err(output.fault().of(OUTPUT)),
-        Err(refusal) => Err(disk_fault(disk, refusal).of(path)),
-    }
-}
-
-/// Makes a new file at this path, a disk with these parameters.
-///
-/// Refuses with `DiskFault` where a file cannot be made, as where something has this name; and where it fails, or else as `format_text` does. The
-/// file that was made is removed, and no other, unless it is a disk and only the line of that could not be written.
-pub fn format_file<'a, R: Files<File = File> + Print + Clock>(
-    rt: &R,
-    path: &'a str,
-    params: &Params,
-    uuid: Option<Uuid>,
-) -> Result<(), Fault<'a>> {
-    let file = match File::create_new(rt, path) {
-        Ok(file) => file,
-        Err(error) => return Err(unopened(error).of(path)),
-    };
-    let known = match file.metadata() {
-        Ok(known) => known,
-        Err(error) => return Err(unopened(error).of(path)),
-    };
-    let outcome = format_new(rt, file, path, params, uuid);
-    if let Err(fault) = &outcome {
-        if fault.refusal() != Refusal::StreamFault {
-            remove_file(rt, path, Identity::of(&known));
-        }
-    }
-    outcome
+    opened_for(rt, path, Access::Read)
 }

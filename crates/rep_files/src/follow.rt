@@ -3,18 +3,20 @@
 ghost use Rattle.rep_service.specs.Exchanges.{IsOfNames};
 
 use crate::disk_file::disk_at;
-use crate::name::Unnamed;
-use crate::target::Target;
-use crate::waiting::Use;
-use crate::{have_in_file, text_fault};
-use rep_reasons::{Cause, Fault, Form, Noted, Text};
+use crate::exchange::{have_exchanged, new_file_exchanged};
+use crate::new_file::NewFile;
+use crate::streams::{standard_input, standard_output};
+use crate::text_fault;
+use rep_disk::Access;
+use rep_reasons::{Cause, Fault, Form};
+use rep_renewal::{Unnamed, named};
 use rep_service::{Exchange, follow_on_disk};
 use rep_streams::{ReaderSource, WriterSink};
 use rep_transfer::Have;
 use rep_types::Refusal;
 use std::fs::{File, Files};
 use std::rt::Clock;
-use std::{io, str};
+use std::str;
 
 /// The refusal of a file, as a line of a running node says it: nothing that is wrong with a file ends the node.
 fn of_file(fault: &Fault<'_>) -> Refusal
@@ -35,7 +37,7 @@ fn text_of(name: &[u8]) -> Result<&str, Unnamed> {
     }
 }
 
-/// Files as what a running node reads and writes in order to donate, by the rules for targets.
+/// Regular files as what a running node reads and writes in order to donate, by the rules for targets. Why one is refused is said on standard error.
 #[derive(Drop)]
 struct FileExchange<'r, R> {
     rt: &'r R,
@@ -43,61 +45,71 @@ struct FileExchange<'r, R> {
     disk: &'r str,
 }
 
-impl<'r, R: Files<File = File> + Print + AllocGlobal> FileExchange<'r, R> {
-    /// The target of this name.
-    ///
-    /// Refuses as `Target::open` does, and with `StreamFault` a name that is no UTF-8.
-    fn target(&self, name: &[u8]) -> Result<Target<'r, R>, Unnamed> {
+impl<'r, R: Files<File = File> + Eprint + AllocGlobal> FileExchange<'r, R> {
+    /// What a joiner has, in the file of this name.
+    fn have<'a>(&self, name: &'a [u8]) -> Result<Have, Fault<'a>> {
+        have_exchanged(self.rt, text_of(name)?)
+    }
+
+    /// The new file that takes this name.
+    fn new_file<'a>(&self, name: &'a [u8]) -> Result<NewFile, Fault<'a>> {
         let name = text_of(name)?;
-        Target::open(self.rt, name, self.disk)
+        named(new_file_exchanged(self.rt, name, self.disk), name)
+    }
+
+    /// The refusal of this fault, which is told: for what reason, on standard error.
+    fn told(&self, fault: &Fault<'_>) -> Refusal
+        ensures { IsOfNames result }
+    {
+        if let Some(reason) = fault.reason() {
+            let _ = eprintln!(self.rt; "replicad: {reason}");
+        }
+        of_file(fault)
     }
 }
 
-impl<'r, R: Files<File = File> + Print + AllocGlobal> Exchange for FileExchange<'r, R> {
-    type Out = WriterSink<Target<'r, R>>;
+impl<'r, R: Files<File = File> + Eprint + AllocGlobal> Exchange for FileExchange<'r, R> {
+    type Out = WriterSink<NewFile>;
 
     fn read_have(&mut self, name: &[u8]) -> Result<Have, Refusal> {
-        let name = match text_of(name) {
-            Ok(name) => name,
-            Err(fault) => return Err(of_file(&fault)),
-        };
-        match have_in_file(self.rt, name) {
+        match self.have(name) {
             Ok(have) => Ok(have),
-            Err(fault) => Err(of_file(&fault)),
+            Err(fault) => Err(self.told(&fault)),
         }
     }
 
-    fn begin(&mut self, name: &[u8]) -> Result<WriterSink<Target<'r, R>>, Refusal> {
-        match self.target(name) {
-            Ok(target) => Ok(WriterSink::new(target)),
-            Err(fault) => Err(of_file(&fault)),
+    fn begin(&mut self, name: &[u8]) -> Result<WriterSink<NewFile>, Refusal> {
+        match self.new_file(name) {
+            Ok(file) => Ok(WriterSink::new(file)),
+            Err(fault) => Err(self.told(&fault)),
         }
     }
 
-    fn keep(&mut self, out: WriterSink<Target<'r, R>>) -> Result<(), Refusal> {
+    fn keep(&mut self, out: WriterSink<NewFile>) -> Result<(), Refusal> {
         match out.into_writer().end(self.rt, Ok(())) {
             Ok(()) => Ok(()),
-            Err(fault) => Err(of_file(&fault)),
+            Err(fault) => Err(self.told(&fault)),
         }
     }
 
-    fn discard(&mut self, out: WriterSink<Target<'r, R>>) {
+    fn discard(&mut self, out: WriterSink<NewFile>) {
         let _ = out
             .into_writer()
-            .end::<()>(self.rt, Err(Fault::from(Refusal::StreamFault)));
+            .end::<_, ()>(self.rt, Err(Fault::from(Refusal::StreamFault)));
     }
 }
 
 /// Follows an order from standard input on the disk at this path, for as long as it goes on.
 ///
-/// Refuses with `DiskFault` a file that cannot be opened, or that other programs use for two seconds, and else as `follow_on_disk` does.
-pub fn follow_file<'a, R: Files<File = File> + Input + Print + AllocGlobal + Clock>(
+/// Refuses with `DiskFault` a file that cannot be opened, that other programs use for two seconds, or that is to be written anew and cannot be, and else as
+/// `follow_on_disk` does.
+pub fn follow_file<'a, R: Files<File = File> + Input + Print + Eprint + AllocGlobal + Clock>(
     rt: &R,
     path: &'a str,
 ) -> Result<(), Fault<'a>> {
-    let disk = disk_at(rt, path, Use::Change)?;
-    let mut input = Text::new(rt.reader());
-    let mut output = Noted::new(io::writer(rt));
+    let disk = disk_at(rt, path, Access::Change)?;
+    let mut input = standard_input(rt);
+    let mut output = standard_output(rt);
     let (disk, outcome) = follow_on_disk(
         rt.alloc(),
         disk,

@@ -2,19 +2,22 @@
 #![tactic(auto)]
 
 mod disk_file;
+mod exchange;
 mod follow;
-mod name;
+mod format;
 mod new_file;
+mod streams;
 mod sum;
 mod target;
 mod waiting;
 
-use crate::name::{Unnamed, named};
-use crate::waiting::Use;
-pub use disk_file::{DiskOnFile, OnFile, disk_fault, format_file, opened_file};
-use disk_file::{disk_at, opened_to_read};
+pub use disk_file::{DiskOnFile, OnFile, disk_fault, opened_file};
+use disk_file::{disk_at, opened_to_read, tell_unmarked};
 pub use follow::follow_file;
+pub use format::format_file;
+use rep_disk::Access;
 use rep_reasons::{Cause, Fault, Form, Noted, OUTPUT, Text};
+use rep_renewal::{Unnamed, answered, named};
 use rep_saved::SavedState;
 use rep_service::{
     donate, donated_text, donation_refusal, join_text, read_saved, run_on_disk, state_text,
@@ -24,8 +27,10 @@ use rep_streams::{ReaderSource, WriterSink};
 use rep_transfer::{Have, read_have};
 use rep_types::Refusal;
 use std::fs::{File, Files};
-use std::io::{self, Read};
+use std::io::Read;
+use std::os::fd::AsRawFd;
 use std::rt::Clock;
+pub use streams::{standard_input, standard_output};
 pub use sum::print_sum;
 use target::Target;
 
@@ -39,23 +44,44 @@ fn file_at<'a, R: Files<File = File>>(rt: &R, path: &'a str) -> Result<Noted<Fil
     }
 }
 
+/// A folder, by whose descriptor nothing is read or written.
+const FOLDER: &str = "/";
+
+/// The number of standard input's descriptor.
+const INPUT_NUMBER: i32 = 0;
+
 /// The descriptors of standard streams that are closed, taken, so that no file gets one: what is written to that stream would be written into
 /// the file. A folder has them, which can be neither read nor written by its descriptor, so that each use of such a stream fails.
 #[derive(Drop)]
 pub struct Taken {
-    _first: Noted<File>,
-    _second: Noted<File>,
-    _third: Noted<File>,
+    first: File,
+    _second: File,
+    _third: File,
+}
+
+/// A descriptor that reads nothing and writes nothing.
+///
+/// Refuses with `StreamFault` where it cannot be had.
+fn opened_folder<'a, R: Files<File = File>>(rt: &R) -> Result<File, Fault<'a>> {
+    named(answered(File::open(rt, FOLDER)), FOLDER)
 }
 
 impl Taken {
     /// Takes them for as long as it lives. Refuses with `StreamFault` where that cannot be.
     pub fn closed_streams<'a, R: Files<File = File>>(rt: &R) -> Result<Taken, Fault<'a>> {
         Ok(Taken {
-            _first: file_at(rt, "/")?,
-            _second: file_at(rt, "/")?,
-            _third: file_at(rt, "/")?,
+            first: opened_folder(rt)?,
+            _second: opened_folder(rt)?,
+            _third: opened_folder(rt)?,
         })
+    }
+
+    /// The fault of a program whose closed streams these are: of standard input, where that is closed, the cause is that it is.
+    pub fn reasoned<'a>(&self, fault: Fault<'a>) -> Fault<'a> {
+        if self.first.as_raw_fd() == INPUT_NUMBER {
+            return fault.beside_closed_input();
+        }
+        fault
     }
 }
 
@@ -72,16 +98,18 @@ fn stream_fault<'a, R: Drop, W: Drop>(
     written.fault().of(OUTPUT)
 }
 
-/// Runs a script from standard input on the disk at this path.
+/// Runs a script from standard input on the disk at this path. A script goes on behind a device that failed; where a sync failed and the file cannot be marked,
+/// that is said on standard error in the end.
 ///
-/// Refuses with `DiskFault` a file that cannot be opened, or that other programs use for two seconds, and else as `run_on_disk` does.
-pub fn run_file<'a, R: Files<File = File> + Input + Print + AllocGlobal + Clock>(
+/// Refuses with `DiskFault` a file that cannot be opened, that other programs use for two seconds, or that is to be written anew and cannot be, and else as
+/// `run_on_disk` does.
+pub fn run_file<'a, R: Files<File = File> + Input + Print + Eprint + AllocGlobal + Clock>(
     rt: &R,
     path: &'a str,
 ) -> Result<(), Fault<'a>> {
-    let disk = disk_at(rt, path, Use::Change)?;
-    let mut input = Text::new(rt.reader());
-    let mut output = Noted::new(io::writer(rt));
+    let disk = disk_at(rt, path, Access::Change)?;
+    let mut input = standard_input(rt);
+    let mut output = standard_output(rt);
     let (disk, outcome) = run_on_disk(
         rt.alloc(),
         disk,
@@ -89,7 +117,10 @@ pub fn run_file<'a, R: Files<File = File> + Input + Print + AllocGlobal + Clock>
         &mut WriterSink::new(&mut output),
     );
     match outcome {
-        Ok(()) => Ok(()),
+        Ok(()) => {
+            tell_unmarked(rt, path, disk);
+            Ok(())
+        }
         Err(refusal) => Err(text_fault(disk, path, &input, Form::ScriptOnFile, &output, refusal)),
     }
 }
@@ -149,7 +180,7 @@ fn saved_fault<'a>(file: &Noted<File>, refusal: Refusal) -> Fault<'a> {
 /// Writes what the node has to a target, which is then ended.
 ///
 /// Refuses with `StreamFault` a target that cannot be written.
-fn have_to_target<R: Files<File = File> + Print + AllocGlobal>(
+fn have_to_target<R: Files<File = File> + Print + AllocGlobal + Clock>(
     rt: &R,
     replica: &OnFile,
     target: Target<'_, R>,
@@ -167,14 +198,14 @@ fn have_to_target<R: Files<File = File> + Print + AllocGlobal>(
 /// one: it has its name only once it is whole.
 ///
 /// Refuses as `state_text` does; and then with `OutOfMemory`, and with `StreamFault` a file that may be a disk or that cannot be written.
-fn tell_state<'a, R: Files<File = File> + Print + AllocGlobal>(
+fn tell_state<'a, R: Files<File = File> + Print + AllocGlobal + Clock>(
     rt: &R,
     path: &'a str,
     replica: &OnFile,
     saved: Option<&SavedState>,
     have: Option<&'a str>,
 ) -> Result<(), Fault<'a>> {
-    let mut output = Noted::new(io::writer(rt));
+    let mut output = standard_output(rt);
     match state_text(replica, saved, &mut WriterSink::new(&mut output)) {
         Ok(()) => {}
         Err(Refusal::StreamFault) => return Err(output.fault().of(OUTPUT)),
@@ -211,7 +242,13 @@ pub fn print_state<'a, R: Files<File = File> + Print + AllocGlobal + Clock>(
 ///
 /// Refuses with `StreamFault` a file that cannot be opened, and else as `read_have` does.
 fn have_in_file<'a, R: Files<File = File>>(rt: &R, path: &'a str) -> Result<Have, Fault<'a>> {
-    let mut file = file_at(rt, path)?;
+    have_in(file_at(rt, path)?, path)
+}
+
+/// What a joiner has, in this file, which has this path.
+///
+/// Refuses as `read_have` does.
+pub(crate) fn have_in<'a>(mut file: Noted<File>, path: &'a str) -> Result<Have, Fault<'a>> {
     match read_have(&mut ReaderSource::new(&mut file)) {
         Ok(have) => Ok(have),
         Err(Refusal::StreamFault) => Err(file.fault().of(path)),
@@ -225,7 +262,7 @@ fn have_in_file<'a, R: Files<File = File>>(rt: &R, path: &'a str) -> Result<Have
 /// Writes for the joiner what it lacks of the order of the replica to a target, which is then ended, and answers the position that it then has.
 ///
 /// Refuses as `donate` does, and with `StreamFault` a target that cannot be written.
-fn donate_to_target<R: Files<File = File> + Print + AllocGlobal>(
+fn donate_to_target<R: Files<File = File> + Print + AllocGlobal + Clock>(
     rt: &R,
     replica: &mut OnFile,
     have: &Have,
@@ -245,7 +282,7 @@ fn donate_to_target<R: Files<File = File> + Print + AllocGlobal>(
 /// refuses it, and answers the position that it then has. The file has its name only once it is whole.
 ///
 /// Refuses as `donate` does, and with `OutOfMemory` or `StreamFault` a file that may be a disk or that cannot be written.
-fn donate_from<'a, R: Files<File = File> + Print + AllocGlobal>(
+fn donate_from<'a, R: Files<File = File> + Print + AllocGlobal + Clock>(
     rt: &R,
     path: &'a str,
     replica: &mut OnFile,
@@ -262,8 +299,8 @@ fn donate_from<'a, R: Files<File = File> + Print + AllocGlobal>(
 /// Prints the line of what was donated.
 ///
 /// Refuses with `StreamFault` where it cannot be written.
-fn tell_donated<'a, R: Print>(rt: &R, last: u64) -> Result<(), Fault<'a>> {
-    let mut output = Noted::new(io::writer(rt));
+fn tell_donated<'a, R: Print + Clock>(rt: &R, last: u64) -> Result<(), Fault<'a>> {
+    let mut output = standard_output(rt);
     match donated_text(Ok(last), &mut WriterSink::new(&mut output)) {
         Ok(()) => Ok(()),
         Err(_) => Err(output.fault().of(OUTPUT)),
@@ -271,7 +308,7 @@ fn tell_donated<'a, R: Print>(rt: &R, last: u64) -> Result<(), Fault<'a>> {
 }
 
 /// Prints the line of what was donated of the disk at this path, or says why nothing was.
-fn told_of<'a, R: Print>(
+fn told_of<'a, R: Print + Clock>(
     rt: &R,
     path: &'a str,
     disk: DiskOnFile,
@@ -324,14 +361,14 @@ fn join_fault<'a, W: Drop>(
 }
 
 /// Brings the node of this replica, on the disk at this path, up to date by the transfer in the file at the other one.
-fn join_by<'a, R: Print + AllocGlobal>(
+fn join_by<'a, R: Print + AllocGlobal + Clock>(
     rt: &R,
     path: &'a str,
     replica: OnFile,
     from: &'a str,
     mut file: Noted<File>,
 ) -> Result<(), Fault<'a>> {
-    let mut output = Noted::new(io::writer(rt));
+    let mut output = standard_output(rt);
     let (replica, outcome) = join_text(
         rt.alloc(),
         replica,

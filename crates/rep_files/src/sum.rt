@@ -1,22 +1,22 @@
 //! The sum of a disk.
 
 use crate::disk_file::{OnFile, disk_fault, opened_to_read};
-use rep_reasons::{Fault, Noted, OUTPUT};
+use crate::streams::standard_output;
+use rep_reasons::{Fault, OUTPUT};
 use rep_service::sum_text;
 use rep_streams::WriterSink;
 use rep_types::Refusal;
 use std::fs::{File, Files};
-use std::io;
 use std::rt::Clock;
 
 /// Prints the sum of this replica, on the disk at this path.
-fn print_sum_of<'a, R: Print>(
+fn print_sum_of<'a, R: Print + Clock>(
     rt: &R,
     path: &'a str,
     mut replica: OnFile,
     position: Option<u64>,
 ) -> Result<(), Fault<'a>> {
-    let mut output = Noted::new(io::writer(rt));
+    let mut output = standard_output(rt);
     let outcome = sum_text(&mut replica, position, &mut WriterSink::new(&mut output));
     let disk = replica.into_disk();
     match outcome {

@@ -1,14 +1,16 @@
 //! Where the bytes go that a command writes to a file. No disk is touched, and a file has its name whole or not at all.
 
-use crate::name::{
+use crate::new_file::NewFile;
+use crate::streams::Output;
+use rep_layout::{GATE, SUPER_BODY};
+use rep_reasons::{Cause, Patient};
+use rep_renewal::{
     Identity, Unnamed, answered, found_at, is_standard_output, is_stream, meant_by, refused,
 };
-use crate::new_file::NewFile;
-use rep_layout::{GATE, SUPER_BODY};
-use rep_reasons::Cause;
 use std::fs::{File, Files, Metadata, OpenOptions};
-use std::io::{self, ErrorKind, Printer, Write};
+use std::io::{self, ErrorKind, Write};
 use std::os::unix::fs::FileExt;
+use std::rt::Clock;
 
 /// The first byte of a disk's second superblock.
 const SECOND: u64 = (SUPER_BODY + GATE) as u64;
@@ -37,6 +39,17 @@ fn may_be_disk(file: &File) -> Option<Cause> {
     }
 }
 
+/// Whether the open file is the one of which this is known, as its name was looked at.
+///
+/// Refuses with `StreamFault` another one, and where the system does not tell.
+pub(crate) fn is_same(file: &File, known: &Metadata) -> Result<(), Unnamed> {
+    let found = answered(file.metadata())?;
+    if found.is_file() && Identity::of(&found) == Identity::of(known) {
+        return Ok(());
+    }
+    Err(refused(Cause::Words("another file has taken its name")))
+}
+
 /// What is known of the file that has this name, where there is one, of a command that reads this disk. A regular file is opened, to be looked at.
 ///
 /// Refuses with `StreamFault` the disk itself, a file that may be a disk, and what can't be read and written.
@@ -53,6 +66,7 @@ pub(crate) fn looked_at<R: Files<File = File>>(
     }
     if known.is_file() && !is_stream(name) {
         let file = answered(OpenOptions::new().read(true).write(true).open(rt, name))?;
+        is_same(&file, &known)?;
         if let Some(cause) = may_be_disk(&file) {
             return Err(refused(cause));
         }
@@ -62,11 +76,11 @@ pub(crate) fn looked_at<R: Files<File = File>>(
 
 /// Where bytes go.
 #[derive(Drop)]
-pub(crate) enum Target<'r, R: Print> {
+pub(crate) enum Target<'r, R> {
     /// To standard output, behind what was written there.
-    Printed(Printer<'r, R>),
+    Printed(Output<'r, R>),
     /// To what is no regular file, or to a stream of a program, behind what it has.
-    Stream(File),
+    Stream(Patient<'r, R, File>),
     /// To a new file, which takes its name once it is whole.
     Whole(NewFile),
 }
@@ -97,25 +111,33 @@ fn is_taken(name: &str, known: Option<&Metadata>) -> bool {
     }
 }
 
+/// Which file the disk at this path is.
+///
+/// Refuses with `StreamFault` where nothing is there any more, and where the system does not tell.
+pub(crate) fn disk_of<R: Files<File = File>>(rt: &R, path: &str) -> Result<Identity, Unnamed> {
+    match found_at(rt, path)? {
+        Some(known) => Ok(Identity::of(&known)),
+        None => Err(refused(Cause::Words("the disk is gone"))),
+    }
+}
+
 impl<'r, R: Files<File = File> + Print + AllocGlobal> Target<'r, R> {
     /// The target at this path, of a command that reads the disk at the other one.
     ///
     /// Refuses with `OutOfMemory`; and with `StreamFault` the disk itself, a file that may be a disk or that can't be read and written, and a
     /// name beside which no file can be made. What has the name stays as it is then.
     pub(crate) fn open(rt: &'r R, path: &str, disk: &str) -> Result<Target<'r, R>, Unnamed> {
-        let Some(disk) = found_at(rt, disk)? else {
-            return Err(refused(Cause::Words("the disk is gone")));
-        };
-        let disk = Identity::of(&disk);
+        let disk = disk_of(rt, disk)?;
         let name = meant_by(rt, path)?;
         let known = looked_at(rt, name.as_str(), disk)?;
         if is_standard_output(name.as_str()) {
-            return Ok(Target::Printed(io::writer(rt)));
+            return Ok(Target::Printed(Output::new(rt)));
         }
         if is_taken(name.as_str(), known.as_ref()) {
             return Ok(Target::Whole(NewFile::beside(rt, name, known, disk)?));
         }
-        Ok(Target::Stream(stream_at(rt, name.as_str(), known.as_ref())?))
+        let file = stream_at(rt, name.as_str(), known.as_ref())?;
+        Ok(Target::Stream(Patient::new(rt, file)))
     }
 
     /// Ends the target, into which all was written, or not: a new file takes its name then, or else is removed.
@@ -130,7 +152,7 @@ impl<'r, R: Files<File = File> + Print + AllocGlobal> Target<'r, R> {
     }
 }
 
-impl<R: Print> Write for Target<'_, R> {
+impl<R: Print + Clock> Write for Target<'_, R> {
     fn write(&mut self, bytes: &[u8]) -> io::Result<usize> {
         match self {
             Target::Printed(output) => output.write(bytes),

@@ -23,6 +23,8 @@ impl fmt::Display for Damage {
 pub enum Cause {
     /// The system refused it, and said this.
     System(io::Error),
+    /// A disk is to be written anew, since a sync of it failed, and the system refused that, and said this.
+    Anew(io::Error),
     /// These words say it.
     Words(&'static str),
     /// A parameter is outside its limits.
@@ -39,6 +41,9 @@ impl Cause {
     /// Another program changes the disk.
     pub const IN_USE: Cause = Cause::Words("in use by another program");
 
+    /// A stream is closed.
+    pub const CLOSED: Cause = Cause::Words("it is closed");
+
     /// A text is too long.
     pub const TOO_LONG: Cause = Cause::Words("over 67,108,864 bytes");
 
@@ -52,13 +57,22 @@ impl From<io::Error> for Cause {
     }
 }
 
+/// Writes what the system said.
+fn write_system<W: fmt::Write>(f: &mut fmt::Formatter<W>, error: &io::Error) -> fmt::Result {
+    match words_of(error) {
+        Some(words) => f.write_str(words),
+        None => write!(f, "{error}"),
+    }
+}
+
 impl fmt::Display for Cause {
     fn fmt<W: fmt::Write>(&self, f: &mut fmt::Formatter<W>) -> fmt::Result {
         match self {
-            Cause::System(error) => match words_of(error) {
-                Some(words) => f.write_str(words),
-                None => write!(f, "{error}"),
-            },
+            Cause::System(error) => write_system(f, error),
+            Cause::Anew(error) => {
+                f.write_str("a sync of it failed, and it cannot be written anew: ")?;
+                write_system(f, error)
+            }
             Cause::Words(words) => f.write_str(words),
             Cause::Limits(outside) => write!(f, "{outside}"),
             Cause::Line(line) => write!(f, "{line}"),

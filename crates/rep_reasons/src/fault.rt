@@ -55,6 +55,40 @@ impl<'a> Fault<'a> {
         }
     }
 
+    /// The same of a file that is a disk: what is a stream's fault is the device's.
+    pub fn of_disk(self) -> Fault<'a> {
+        Fault {
+            refusal: match self.refusal {
+                Refusal::StreamFault => Refusal::DiskFault,
+                refusal => refusal,
+            },
+            name: self.name,
+            cause: self.cause,
+        }
+    }
+
+    /// The same of a disk that is to be written anew, since a sync of it failed.
+    pub fn anew(self) -> Fault<'a> {
+        let cause = match self.cause {
+            Some(Cause::System(error)) => Some(Cause::Anew(error)),
+            cause => cause,
+        };
+        Fault { cause, ..self }.of_disk()
+    }
+
+    /// The same where standard input is closed: of what has its name that is the cause.
+    pub fn beside_closed_input(self) -> Fault<'a>
+        ensures { result ≡ self.entry }
+    {
+        let is_of_input = self.refusal == Refusal::StreamFault && self.name == INPUT;
+        let cause = if is_of_input {
+            Some(Cause::CLOSED)
+        } else {
+            self.cause
+        };
+        Fault { cause, ..self }
+    }
+
     /// The refusal.
     pub fn refusal(&self) -> Refusal
         ensures { result ≡ self.now }

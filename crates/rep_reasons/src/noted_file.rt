@@ -2,7 +2,7 @@
 
 use crate::noted::first_error;
 use std::cell::Cell;
-use std::fs::{File, Metadata, OpenFile};
+use std::fs::{File, Metadata, OpenFile, Permissions};
 use std::io::{self, ErrorKind};
 use std::os::unix::fs::FileExt;
 
@@ -10,16 +10,26 @@ use std::os::unix::fs::FileExt;
 #[derive(Drop)]
 pub struct NotedFile {
     file: File,
+    /// The file whose place it took. It stays open, and so locked, as long as this one.
+    _before: Option<File>,
     error: Cell<Option<io::Error>>,
+    has_lost: Cell<bool>,
 }
 
 impl NotedFile {
-    /// This file, of which no call has failed.
-    pub fn new(file: File) -> NotedFile {
+    /// This file, of which no call has failed, and the one whose place it took, if it took one's: that stays open as long as this one.
+    pub fn new(file: File, before: Option<File>) -> NotedFile {
         NotedFile {
             file,
+            _before: before,
             error: Cell::new(None),
+            has_lost: Cell::new(false),
         }
+    }
+
+    /// Whether a sync of it has failed.
+    pub fn has_lost(&self) -> bool {
+        self.has_lost.get()
     }
 
     /// Why its first call that failed did.
@@ -30,6 +40,14 @@ impl NotedFile {
     /// Keeps the error of this outcome, where it is the first one.
     fn note<T>(&self, outcome: &io::Result<T>) {
         self.error.set(first_error(self.error.get(), outcome));
+    }
+
+    /// The same of a sync.
+    fn note_sync(&self, outcome: &io::Result<()>) {
+        self.note(outcome);
+        if outcome.is_err() {
+            self.has_lost.set(true);
+        }
     }
 
     /// The same of a call that was to read or write something, and did nothing.
@@ -70,12 +88,18 @@ impl OpenFile for NotedFile {
 
     fn sync_all(&self) -> io::Result<()> {
         let outcome = self.file.sync_all();
-        self.note(&outcome);
+        self.note_sync(&outcome);
         outcome
     }
 
     fn sync_data(&self) -> io::Result<()> {
         let outcome = self.file.sync_data();
+        self.note_sync(&outcome);
+        outcome
+    }
+
+    fn set_permissions(&self, rights: Permissions) -> io::Result<()> {
+        let outcome = self.file.set_permissions(rights);
         self.note(&outcome);
         outcome
     }

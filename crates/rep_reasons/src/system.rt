@@ -5,6 +5,9 @@ use std::io::{self, ErrorKind};
 /// The numbers of Linux for too many open files: of the program, and of the system.
 const TOO_MANY: [i32; 2] = [24, 23];
 
+/// The number of Linux for a descriptor that is closed, or that is not open for what is asked.
+const CLOSED: i32 = 9;
+
 /// The words for this kind of error, where there are own ones.
 fn words_of_kind(kind: ErrorKind) -> Option<&'static str> {
     match kind {
@@ -30,6 +33,7 @@ fn words_of_kind(kind: ErrorKind) -> Option<&'static str> {
 pub(crate) fn words_of(error: &io::Error) -> Option<&'static str> {
     match error.raw_os_error() {
         Some(code) if TOO_MANY.contains(&code) => Some("too many open files"),
+        Some(CLOSED) => Some("it is closed"),
         _ => words_of_kind(error.kind()),
     }
 }

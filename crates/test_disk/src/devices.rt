@@ -1,10 +1,11 @@
 //! What no life of a replica asks of a device: a write of nothing, a read that a fuse does not pass, and a file that is cut behind its
 //! back.
 
-use rep_disk::{Disk, FileDisk, Fuse, FuseDisk, Loss, MemDisk};
+use rep_disk::{Disk, FileDisk, Fuse, FuseDisk, Loss, MemDisk, set_mark};
 use std::alloc::Global;
 use std::fs;
-use std::fs::OpenOptions;
+use std::fs::{File, OpenOptions};
+use std::io::{self, ErrorKind};
 use std::test::Fail;
 
 /// Writes no bytes at this place.
@@ -55,10 +56,10 @@ fn a_read_that_a_fuse_does_not_pass_reads_nothing(rt: HostRuntime) {
     }
 }
 
-/// A path for a file of this process.
-fn new_path(rt: &HostRuntime) -> Result<String, Fail> {
+/// A path for a file of this process, and of a test that says this word.
+fn new_path(rt: &HostRuntime, word: &str) -> Result<String, Fail> {
     let path = format!(in rt.alloc();
-        "{}/rep_disk_{}",
+        "{}/rep_disk_{word}_{}",
         std::env::temp_dir(rt)?.display(),
         std::process::id(rt.process())
     )?;
@@ -92,8 +93,40 @@ fn read_cut_at(rt: &HostRuntime, path: &str) -> Result<(bool, bool, u64, u64), F
 
 #[test]
 fn a_file_that_is_cut_is_not_read(rt: HostRuntime) -> Result<(), Fail> {
-    let path = new_path(&rt)?;
+    let path = new_path(&rt, "cut")?;
     let found = read_cut_at(&rt, path.as_str())?;
     assert_eq!(rt; found, (false, true, 1, 2));
+    Ok(())
+}
+
+/// Whether a disk is refused as one on a file of which a sync failed.
+fn is_untrusted(opened: io::Result<FileDisk<File>>) -> bool {
+    match opened {
+        Ok(_) => false,
+        Err(error) => error.kind() == ErrorKind::InvalidData,
+    }
+}
+
+/// Makes a file and marks it, or takes the mark off: whether the file is then so, and whether it is refused to be changed and to be read.
+fn opened_marked(rt: &HostRuntime, path: &str, marked: bool) -> Result<[bool; 3], Fail> {
+    let file = FileDisk::create(rt, path, 4)?.into_file();
+    let is_so = set_mark(&file, true)? && set_mark(&file, marked)?;
+    drop(file);
+    let refused = [
+        is_so,
+        is_untrusted(FileDisk::open(rt, path)),
+        is_untrusted(FileDisk::open_to_read(rt, path)),
+    ];
+    fs::remove_file(rt, path)?;
+    Ok(refused)
+}
+
+#[test]
+fn a_file_of_which_a_sync_failed_is_not_opened(rt: HostRuntime) -> Result<(), Fail> {
+    let path = new_path(&rt, "marked")?;
+    for marked in [true, false] {
+        let found = opened_marked(&rt, path.as_str(), marked)?;
+        assert_eq!(rt; found, [true, marked, marked]);
+    }
     Ok(())
 }

@@ -3,9 +3,9 @@ ghost use Rattle.std.specs.Prelude.{◌+◌, ◌≤◌};
 
 use rep_disk::{Disk, FileDisk};
 use std::cell::Cell;
-use std::fs::{Metadata, OpenFile};
+use std::fs::{Metadata, OpenFile, Permissions};
 use std::io;
-use std::os::unix::fs::FileExt;
+use std::os::unix::fs::{FileExt, PermissionsExt};
 use std::process::Abort;
 use std::test::Fail;
 
@@ -24,11 +24,12 @@ const SIZE: usize = 8;
 
 const NO_FAULT: usize = usize::MAX;
 
-/// A file in memory that notes what it is asked for, moves two bytes at a time at most, and fails the
+/// A file in memory that notes what it is asked for and which rights it is to have, moves two bytes at a time at most, and fails the
 /// call of one number.
 #[derive(Drop)]
 struct NotedFile {
     bytes: Cell<[u8; SIZE]>,
+    rights: Cell<u32>,
     asked: Cell<[Asked; 7]>,
     count: Cell<usize>,
     fault: usize,
@@ -38,6 +39,7 @@ impl NotedFile {
     fn new(fault: usize) -> NotedFile {
         NotedFile {
             bytes: Cell::new([0; SIZE]),
+            rights: Cell::new(0),
             asked: Cell::new([Nothing; 7]),
             count: Cell::new(0),
             fault,
@@ -102,6 +104,11 @@ impl OpenFile for NotedFile {
     fn sync_data(&self) -> io::Result<()> {
         self.note(Sync)
     }
+
+    fn set_permissions(&self, rights: Permissions) -> io::Result<()> {
+        self.rights.set(rights.mode() & 0o7777);
+        Ok(())
+    }
 }
 
 /// All that a write, two syncs and a read ask for.
@@ -162,11 +169,16 @@ fn ask_four(disk: &mut FileDisk<NotedFile>, out: &mut [u8; 4]) -> [bool; 4] {
     ]
 }
 
+/// The rights of the file, once a sync of it has failed, and before.
+fn rights_behind(succeed: [bool; 4]) -> u32 {
+    if succeed[1] && succeed[2] { 0 } else { 0o1644 }
+}
+
 /// The bytes that were read, and those of the file.
 type Bytes = ([u8; 4], [u8; SIZE]);
 
 /// Which of the calls succeed on a file that fails its call of this number, how many failures were counted, and the bytes; and whether
-/// the file was asked for this.
+/// the file was asked for this, and got the mark of a failed sync where one failed.
 fn ask_noted(fault: usize, asked: [Asked; 7]) -> Result<([bool; 4], u64, Bytes, bool), Fail> {
     let mut disk = noted_disk(fault)?;
     let mut out = [5; 4];
@@ -174,7 +186,13 @@ fn ask_noted(fault: usize, asked: [Asked; 7]) -> Result<([bool; 4], u64, Bytes, 
     let failures = disk.failures();
     let file = disk.into_file();
     let bytes = (out, file.bytes.get());
-    Ok((answers, failures, bytes, file.asked.get() == asked))
+    let is_marked = file.rights.get() == rights_behind(answers);
+    Ok((
+        answers,
+        failures,
+        bytes,
+        file.asked.get() == asked && is_marked,
+    ))
 }
 
 /// The bytes where no call fails: they are those that were written.

@@ -11,15 +11,15 @@ use std::path::{Path, PathBuf};
 const LINKS: u32 = 40;
 
 /// A fault of a file whose name is said later.
-pub(crate) type Unnamed = Fault<'static>;
+pub type Unnamed = Fault<'static>;
 
 /// The fault of a file that is refused for this cause.
-pub(crate) fn refused(cause: Cause) -> Unnamed {
+pub fn refused(cause: Cause) -> Unnamed {
     Fault::new(Refusal::StreamFault, cause)
 }
 
 /// What the system answered of a file. A failure is `StreamFault`.
-pub(crate) fn answered<T>(answer: io::Result<T>) -> Result<T, Unnamed> {
+pub fn answered<T>(answer: io::Result<T>) -> Result<T, Unnamed> {
     match answer {
         Ok(value) => Ok(value),
         Err(error) => Err(refused(Cause::System(error))),
@@ -27,7 +27,7 @@ pub(crate) fn answered<T>(answer: io::Result<T>) -> Result<T, Unnamed> {
 }
 
 /// The outcome, whose fault, if it is one, is that of the file of this name.
-pub(crate) fn named<T>(outcome: Result<T, Unnamed>, name: &str) -> Result<T, Fault<'_>> {
+pub fn named<T>(outcome: Result<T, Unnamed>, name: &str) -> Result<T, Fault<'_>> {
     match outcome {
         Ok(value) => Ok(value),
         Err(fault) => Err(fault.of(name)),
@@ -36,24 +36,36 @@ pub(crate) fn named<T>(outcome: Result<T, Unnamed>, name: &str) -> Result<T, Fau
 
 /// Which file it is, whatever names it has: its device, and its number there.
 #[derive(Clone, Copy, PartialEq, Eq)]
-pub(crate) struct Identity {
+pub struct Identity {
     device: u64,
     number: u64,
 }
 
 impl Identity {
     /// That of the file of which this is known.
-    pub(crate) fn of(known: &Metadata) -> Identity {
+    pub fn of(known: &Metadata) -> Identity {
         Identity {
             device: known.dev(),
             number: known.ino(),
         }
     }
+
+    /// Whether this name, which is no link's, is that of the file of which this is known.
+    ///
+    /// Refuses with `StreamFault` where the system does not tell.
+    pub fn is_named<R: Files<File = File>>(
+        rt: &R,
+        name: &str,
+        known: &Metadata,
+    ) -> Result<bool, Unnamed> {
+        let named = answered(fs::symlink_metadata(rt, name))?;
+        Ok(Identity::of(&named) == Identity::of(known))
+    }
 }
 
 /// Whether the name is one of a stream that a program has open. Such names lead to files as links do, but what is written there belongs
 /// behind what the stream has.
-pub(crate) fn is_stream(name: &str) -> bool {
+pub fn is_stream(name: &str) -> bool {
     name == "/dev/stdout"
         || name == "/dev/stderr"
         || name.starts_with("/dev/fd/")
@@ -61,7 +73,7 @@ pub(crate) fn is_stream(name: &str) -> bool {
 }
 
 /// Whether the name is one of the program's own standard output.
-pub(crate) fn is_standard_output(name: &str) -> bool {
+pub fn is_standard_output(name: &str) -> bool {
     name == "/dev/stdout" || name == "/dev/fd/1" || name == "/proc/self/fd/1"
 }
 
@@ -76,11 +88,22 @@ pub(crate) fn folder_of(name: Path<'_>) -> Path<'_> {
 /// What is known of the file that has this name, or the one that its links lead to; nothing where nothing has it.
 ///
 /// Refuses with `StreamFault` where the system does not tell.
-pub(crate) fn found_at<R: Files<File = File>>(
+pub fn found_at<R: Files<File = File>>(rt: &R, name: &str) -> Result<Option<Metadata>, Unnamed> {
+    match fs::metadata(rt, name) {
+        Ok(known) => Ok(Some(known)),
+        Err(error) if error.kind() == ErrorKind::NotFound => Ok(None),
+        Err(error) => Err(refused(Cause::System(error))),
+    }
+}
+
+/// What is known of what has this name, a link itself too; nothing where nothing has it.
+///
+/// Refuses with `StreamFault` where the system does not tell.
+pub fn found_itself<R: Files<File = File>>(
     rt: &R,
     name: &str,
 ) -> Result<Option<Metadata>, Unnamed> {
-    match fs::metadata(rt, name) {
+    match fs::symlink_metadata(rt, name) {
         Ok(known) => Ok(Some(known)),
         Err(error) if error.kind() == ErrorKind::NotFound => Ok(None),
         Err(error) => Err(refused(Cause::System(error))),
@@ -94,11 +117,10 @@ fn is_link<R: Files<File = File>>(rt: &R, name: &str) -> Result<bool, Unnamed> {
     if is_stream(name) {
         return Ok(false);
     }
-    match fs::symlink_metadata(rt, name) {
-        Ok(known) => Ok(known.is_symlink()),
-        Err(error) if error.kind() == ErrorKind::NotFound => Ok(false),
-        Err(error) => Err(refused(Cause::System(error))),
-    }
+    Ok(match found_itself(rt, name)? {
+        Some(known) => known.is_symlink(),
+        None => false,
+    })
 }
 
 /// The name that this link leads to.
@@ -121,7 +143,7 @@ fn behind_link<R: Files<File = File> + AllocGlobal>(
 ///
 /// Refuses with `OutOfMemory`, and with `StreamFault` where the system does not tell, where a link leads to a name that is no UTF-8, and
 /// where there are over 40 links.
-pub(crate) fn meant_by<R: Files<File = File> + AllocGlobal>(
+pub fn meant_by<R: Files<File = File> + AllocGlobal>(
     rt: &R,
     name: &str,
 ) -> Result<PathBuf, Unnamed> {
@@ -136,7 +158,7 @@ pub(crate) fn meant_by<R: Files<File = File> + AllocGlobal>(
 }
 
 /// Removes the file that has this name, where it is this one. Where the system refuses that, it stays.
-pub(crate) fn remove_file<R: Files<File = File>>(rt: &R, name: &str, file: Identity) {
+pub fn remove_file<R: Files<File = File>>(rt: &R, name: &str, file: Identity) {
     if let Ok(known) = fs::symlink_metadata(rt, name) {
         if Identity::of(&known) == file {
             let _ = fs::remove_file(rt, name);

@@ -1,0 +1,1 @@
+"""What scripts/forgets is made of."""
