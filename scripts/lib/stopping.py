@@ -157,6 +157,7 @@ class DiskFile:
     def lose(self, loss, draws):
         """Makes a power failure of the program's end: of what was not synced nothing stays (`drop`), or junk (`junk`), or piece by
         piece what was written, what stood there before or junk (`some`). With `keep` all of it stays, and can be lost later."""
+        self.unmark()
         if loss == "keep":
             return
         size = draws.choice((1, 16, 512, 4_096, 1 << 20))
@@ -170,6 +171,11 @@ class DiskFile:
                     os.pwrite(file, piece if fate == "drop" else bytes([junk]) * len(piece), place + at)
         os.close(file)
         os.truncate(self.unsynced, 0)
+
+    def unmark(self):
+        """Takes the mark of a failed sync off the file: the system that forgets what it could not write is another trial's (scripts/forgets)."""
+        if os.path.exists(self.path):
+            os.chmod(self.path, os.stat(self.path).st_mode & 0o777)
 
     def is_synced(self):
         return not self.pending()

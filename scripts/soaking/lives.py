@@ -1,4 +1,5 @@
 """The lives of scripts/soak: programs on the files of nodes, each ended in a drawn way, beside the model of what they leave."""
+import glob
 import os
 
 from lib.joins import Transfer
@@ -182,16 +183,23 @@ class Replica:
         words = self.words("format", self.disk.path, *options, *["--uuid", CLUSTER] * self.node.is_defined)
         if self.draws.chance(20):
             has_ended(self.disk.run(words, "", Stop(self.draws.randint(1, 20), self.draws.choice((0, 500, WHOLE)))), STOPPED)
-            self.disk.lose(self.draws.choice(LOSSES), self.draws)
-            ended = self.disk.run(self.words("state", self.disk.path), "")
-            refusals = ["fault 12 not-formatted"] + ["fault 13 corrupt " + part for part in ("superblock", "window", "log", "pages")]
-            if ended.status != 0 and not (ended.status == 1 and ended.lines[0] in refusals):
-                raise Wrong("a format that was stopped leaves %r, status %r" % (ended.lines, ended.status))
+            if os.path.exists(self.disk.path):
+                self.is_new_or_refused()
             self.counts["stops of a format"] += 1
             self.disk.remove()
+            for left in glob.glob(os.path.join(os.path.dirname(self.disk.path), ".%s.new-*" % os.path.basename(self.disk.path))):
+                os.remove(left)
         ended = self.disk.run(words, "")
         has_ended(ended, 0)
         holds(differs(ended.lines, ["formatted " + self.node.gtid()]))
+
+    def is_new_or_refused(self):
+        """A disk that has its name behind a format that was stopped: what is not synced of it may be lost. It opens, or is refused as none."""
+        self.disk.lose(self.draws.choice(LOSSES), self.draws)
+        ended = self.disk.run(self.words("state", self.disk.path), "")
+        refusals = ["fault 12 not-formatted"] + ["fault 13 corrupt " + part for part in ("superblock", "window", "log", "pages")]
+        if ended.status != 0 and not (ended.status == 1 and ended.lines[0] in refusals):
+            raise Wrong("a format that was stopped leaves %r, status %r" % (ended.lines, ended.status))
 
     def opens(self, nodes, most=0):
         """What was not synced may be lost. Then the disk opens as one of these nodes, with at most so many items or what they had."""
